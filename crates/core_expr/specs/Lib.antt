@@ -1,0 +1,3 @@
+pub mod Tree
+pub mod Put
+pub mod Terms

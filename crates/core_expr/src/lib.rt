@@ -1,0 +1,13 @@
+//! Expressions of TLA+ after names and forms are resolved: trees with numbered bound variables.
+//!
+//! To the layers above this crate promises the tree of an expression, its closedness, putting in and substitution
+//! with their laws, and texts.
+#![tactic(auto)]
+
+mod head;
+mod memory;
+mod text;
+
+pub use head::{Binder, Head, Sym, SymKind};
+pub use memory::Memory;
+pub use text::Text;

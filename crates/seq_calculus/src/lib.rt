@@ -1,0 +1,2 @@
+//! The sequent calculus: what a derivation is.
+#![tactic(auto)]

@@ -1,0 +1,16 @@
+pub mod Trace
+pub mod Rows
+pub mod Own
+pub mod Cantor
+pub mod Rules
+pub mod Natural
+pub mod Lefts
+pub mod Sides
+pub mod Says
+pub mod Ranked
+pub mod Sided
+pub mod Instanced
+pub mod Sound
+pub mod Used
+pub mod Turned
+pub mod Treed

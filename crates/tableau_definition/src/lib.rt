@@ -1,0 +1,2 @@
+//! The written search, as a definition.
+#![tactic(auto)]
