@@ -1,0 +1,65 @@
+-- The report of a run on one theorem.
+use Rattle.std.specs.Prelude.{ℕ, suc, Bool, true, false, List, [], ◌∷◌, ◌++◌, codes, decimal}
+use Rattle.core_expr.specs.Tree.{Tree}
+use Rattle.core_expr.specs.Tree.Tree.{app}
+use Rattle.core_expr.specs.Tree.Parts.{end}
+use Rattle.tableau_definition.specs.Branches.{Branch, has}
+use Rattle.tableau_definition.specs.Search.{End}
+use Rattle.tableau_definition.specs.Search.End.{Closed, Saturated, Spent}
+use Rattle.proof_manager.specs.Canonical.{canon_sym}
+
+abbrev pub Bytes : Type 0
+Bytes = List ℕ
+
+-- a line with its line feed
+abbrev pub line : Bytes → Bytes
+line text = text ++ 10 ∷ []
+
+-- the canonical symbol i has the value true on a saturated branch exactly where it is an entry
+abbrev pub value_on : Branch → ℕ → Bool
+value_on b i = has b (app (canon_sym i 0) end)
+
+abbrev pub truth_text : Bool → Bytes
+truth_text true = codes "TRUE"
+truth_text false = codes "FALSE"
+
+-- a symbol's name and its value
+abbrev pub value_text : Branch → ℕ → Bytes → Bytes
+value_text b i name = name ++ codes " = " ++ truth_text (value_on b i)
+
+-- the values of the symbols from the number i on, each but the first after a comma and a blank
+abbrev pub more_values : Branch → ℕ → List Bytes → Bytes
+more_values b i [] = []
+more_values b i (name ∷ names) = codes ", " ++ value_text b i name ++ more_values b (suc i) names
+
+-- the values of the symbols with these names, in canonical order
+abbrev pub valuation_text : Branch → List Bytes → Bytes
+valuation_text b [] = []
+valuation_text b (name ∷ names) = value_text b 0 name ++ more_values b 1 names
+
+-- what is printed of the end of a search
+abbrev pub verdict_text : List Bytes → End → Bytes
+verdict_text names (Closed n) = codes "proved, " ++ decimal n ++ codes " turns"
+verdict_text names (Saturated b n) = codes "saturated, " ++ decimal n ++ codes " turns: " ++ valuation_text b names
+verdict_text names (Spent n) = codes "spent, " ++ decimal n ++ codes " turns"
+
+abbrev pub is_proved : End → Bool
+is_proved (Closed n) = true
+is_proved (Saturated b n) = false
+is_proved (Spent n) = false
+
+abbrev pub status_text : Bool → Bytes
+status_text true = codes "proved"
+status_text false = codes "unproved"
+
+abbrev pub count_text : Bool → Bytes
+count_text true = codes "1 theorems, 1 proved"
+count_text false = codes "1 theorems, 0 proved"
+
+-- the report on one theorem, whose word THEOREM stands at 3:1 and whose leaf stands in line 3 at this column
+unfoldable pub report : Bytes → Bytes → ℕ → List Bytes → End → Bytes
+report module theorem column names e =
+    line (codes "module " ++ module)
+    ++ line (codes "theorem " ++ theorem ++ codes " 3:1 " ++ status_text (is_proved e))
+    ++ line (codes "  leaf 3:" ++ decimal column ++ codes " " ++ verdict_text names e)
+    ++ line (count_text (is_proved e))
