@@ -9,6 +9,7 @@ mod place;
 mod token;
 mod tree;
 mod unit;
+mod word;
 
 pub use fault::{Kind, LexFault, OutlineFault, ScopeFault, SynFault};
 pub use place::Place;
@@ -16,4 +17,7 @@ pub use token::{Tok, Token, Tokens};
 pub use tree::{Decl, Def, Form, Group, Key, Node, Path};
 pub use unit::{
     Fact, Item, Loaded, Module, Proof, Sort, Statement, Step, StepKind, Unit, UnitKind,
+};
+pub use word::{
+    begins_with_fairness, has_letter, is_among, is_identifier, is_reserved, is_word_byte,
 };
