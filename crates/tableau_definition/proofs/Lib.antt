@@ -14,3 +14,5 @@ pub mod Sound
 pub mod Used
 pub mod Turned
 pub mod Treed
+pub mod Connectives
+pub mod Kept
