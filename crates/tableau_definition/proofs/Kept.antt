@@ -35,6 +35,7 @@ chosen-from rank rule i (e ∷ b) r h = go (chosen-from rank rule (suc i) b r) e
   where
     after : ((j : ℕ) × (r.entry ≡ suc i + j) × Chosen rule b j r.step) → (j : ℕ) × (r.entry ≡ i + j) × Chosen rule (e ∷ b) j r.step
     after t = let q : r.entry ≡ i + suc t.0 = omega (arith, t.1) in (suc t.0, q, record { entry = t.2.entry; nth = t.2.nth; by = t.2.by })
+
     go : (oldest rank rule (suc i) b ≡ Some r → (j : ℕ) × (r.entry ≡ suc i + j) × Chosen rule b j r.step)
         → (l : Bool) (o : Option Step)
         → rule e.formula ≡ o
@@ -107,6 +108,7 @@ settle-formulas b f p = go (split f) (split-formulas f p)
         pick false false None (Some gs) = (h.0, tt)
         pick false false None None = tt
     between (l ∷ r ∷ s ∷ ss) h = tt
+
     go : (o : Option Step) → StepFormulas o → StepFormulas (elim o [ None ↦ None | Some s ↦ settle_between b f s.sides ])
     go None h = tt
     go (Some s) h = between s.sides h
@@ -212,6 +214,7 @@ turn-cases drops w n o os cs P h shut ruled = go (closing o.branch) refl h
     rule : closing o.branch ≡ None → (x : Option Result) → first_rule w o.branch ≡ x → elim x [ None ↦ Stuck o.branch | Some r ↦ Goes (with_path n o.path (apply n r o.branch) ++ os) ] ≡ Goes cs → P cs
     rule e None q h = cc
     rule e (Some r) q h = subst P (ap (next_of []) h) (ruled r e q)
+
     go : (x : Option Closing) → closing o.branch ≡ x
         → elim x [
           | Some c ↦ Goes (elim drops [ true ↦ taken o.path (needs_of o.branch c.entries) os | false ↦ os ])

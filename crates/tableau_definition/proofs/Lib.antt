@@ -16,3 +16,5 @@ pub mod Turned
 pub mod Treed
 pub mod Connectives
 pub mod Kept
+pub mod Grown
+pub mod Contracts

@@ -6,3 +6,4 @@ pub mod Instances
 pub mod Search
 pub mod Turns
 pub mod Propositional
+pub mod Laws
