@@ -3,3 +3,4 @@ pub mod Calculus
 pub mod Laws
 pub mod Lists
 pub mod Steps
+pub mod Example

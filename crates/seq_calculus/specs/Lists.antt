@@ -1,6 +1,6 @@
 -- The flat lists of a proof: which are allowed, and how they are written.
-use Rattle.std.specs.Prelude.{ℕ, suc, ◌+◌, ◌<◌, Bool, cond, nat_eq, nat_lt, ◌&&◌, List, [], ◌∷◌, ◌++◌, length, take, drop, map, IsTrue}
-use Rattle.std.specs.List.{flat_map, IsDistinct}
+use Rattle.std.specs.Prelude.{◌≡◌, ℕ, suc, ◌+◌, ◌<◌, Bool, cond, nat_eq, nat_lt, ◌&&◌, List, [], ◌∷◌, ◌++◌, length, take, drop, map, IsTrue}
+use Rattle.std.specs.List.{flat_map}
 use Rattle.std.specs.Coded.{Coded, code_by, coded×, coded_ℕ, coded_list}
 use Rattle.std.proofs.Common.{get_or, refl}
 use Rattle.core_expr.specs.Nodes.{Node, AreBelow, AreNodes}
@@ -57,11 +57,21 @@ node_of n = record { head = n.head; numbers = n.numbers; parts = n.parts }
 abbrev pub all_premises : List ProofStep → List ℕ
 all_premises ss = flat_map (λ (s : ProofStep). s.premises) ss
 
+-- a number that is none of these
+abbrev pub IsApart : ℕ → List ℕ → Type 0
+IsApart n [] = Unit {0}
+IsApart n (m ∷ ms) = ¬ (n ≡ m) × IsApart n ms
+
+-- no number stands here twice
+abbrev pub AreApart : List ℕ → Type 0
+AreApart [] = Unit {0}
+AreApart (n ∷ ns) = IsApart n ns × AreApart ns
+
 -- the lists of a proof: each index is below its own, no step is a premise of two places, and there is a last step
 pub record AreLists (l : Lists) : Type 0 where
   pub nodes : AreNodes 0 (map node_of l.nodes)
   pub steps : AreSteps (length l.nodes) 0 l.steps
-  pub once : IsDistinct nat_eq (all_premises l.steps)
+  pub once : AreApart (all_premises l.steps)
   pub some : 0 < length l.steps
 
 -- a node as it is written: its head, its numbers and its parts
