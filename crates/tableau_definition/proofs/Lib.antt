@@ -14,3 +14,5 @@ pub mod Sound
 pub mod Used
 pub mod Turned
 pub mod Treed
+pub mod Grown
+pub mod Contracts

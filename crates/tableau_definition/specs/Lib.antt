@@ -5,3 +5,4 @@ pub mod Ranks
 pub mod Instances
 pub mod Search
 pub mod Turns
+pub mod Laws

@@ -1,0 +1,30 @@
+-- What is proved of the written search. Each statement is the contract of a function of src/laws.rt.
+use Rattle.std.specs.Prelude.{◌≡◌, ℕ, Bool, List, [], ◌∷◌, ◌++◌}
+use Rattle.core_expr.specs.Tree.{Tree, not_}
+use Rattle.seq_calculus.specs.Calculus.{HasAll, IsClosed, AllClosed, Der}
+use Rattle.tableau_definition.specs.Branches.{Branch, formulas, add_all}
+use Rattle.tableau_definition.specs.Search.{spare, search}
+use Rattle.tableau_definition.specs.Search.End.{Closed}
+use Rattle.tableau_definition.specs.Turns.{Turns, used_by, IsClosedFor}
+
+-- where the search ends closed, in either edition, the goal has a derivation from the facts
+abbrev pub ClosedDerives : Type 0
+ClosedDerives = (drops : Bool) (symbols : ℕ) (facts : List Tree) (goal : Tree) (limit used : ℕ) → AllClosed facts → IsClosed goal → search drops symbols facts goal limit ≡ Closed used → Der facts (goal ∷ [])
+
+-- the branch that the search starts with
+abbrev pub start_branch : List Tree → Tree → Branch
+start_branch facts goal = add_all [] [] (facts ++ not_ goal ∷ [])
+
+-- where the search ends closed, in either edition, there is a tree of turns that is closed for the start branch
+abbrev pub ClosedHasTree : Type 0
+ClosedHasTree =
+    (drops : Bool) (symbols : ℕ) (facts : List Tree) (goal : Tree) (limit used : ℕ) → AllClosed facts → IsClosed goal → search drops symbols facts goal limit ≡ Closed used
+    → (t : Turns) × IsClosedFor (spare symbols) (start_branch facts goal) t
+
+-- what a closed tree uses stands on its branch, and is contradictory by itself; w is the closed spare term
+abbrev pub TreeRefutes : Type 0
+TreeRefutes = (w : Tree) (b : Branch) (t : Turns) → IsClosed w → AllClosed (formulas b) → IsClosedFor w b t → HasAll (formulas b) (used_by b t) × Der (used_by b t) []
+
+-- a tree that is closed for the start branch gives a derivation of the goal from the facts
+abbrev pub TreeDerives : Type 0
+TreeDerives = (symbols : ℕ) (facts : List Tree) (goal : Tree) (t : Turns) → AllClosed facts → IsClosed goal → IsClosedFor (spare symbols) (start_branch facts goal) t → Der facts (goal ∷ [])

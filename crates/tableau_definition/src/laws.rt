@@ -1,0 +1,26 @@
+//! The laws of the written search. The functions do nothing: their contracts are the laws.
+ghost use Rattle.tableau_definition.specs.Laws.{ClosedDerives, ClosedHasTree, TreeRefutes, TreeDerives};
+
+/// Where the search ends closed, in either edition, the goal has a derivation from the facts.
+#[tactic(auto, using(crate::proofs::Contracts::closed_derives))]
+pub fn closed_derives()
+    ensures { ClosedDerives }
+{}
+
+/// Where the search ends closed, in either edition, there is a tree of turns that is closed for the start branch.
+#[tactic(auto, using(crate::proofs::Contracts::closed_has_tree))]
+pub fn closed_has_tree()
+    ensures { ClosedHasTree }
+{}
+
+/// What a closed tree uses stands on its branch, and has a derivation of the empty right side.
+#[tactic(auto, using(crate::proofs::Contracts::tree_refutes))]
+pub fn tree_refutes()
+    ensures { TreeRefutes }
+{}
+
+/// A tree that is closed for the start branch gives a derivation of the goal from the facts.
+#[tactic(auto, using(crate::proofs::Contracts::tree_derives))]
+pub fn tree_derives()
+    ensures { TreeDerives }
+{}
