@@ -1,4 +1,5 @@
 ghost use Rattle.seq_calculus.specs.Laws.{Weakening, Substitution, Closedness, ClosedInstances};
+ghost use Rattle.seq_calculus.specs.Example.{FlatExample};
 
 /// More formulas on either side, in any order, keep a sequent derivable. A law: it does nothing when it runs.
 pub fn weakening()
@@ -23,5 +24,12 @@ pub fn closedness()
 /// runs.
 pub fn closed_instances()
     ensures { ClosedInstances }
+{
+}
+
+/// Two steps, as they are written in flat lists, prove A => A, and with another rule in the second they do not. A law: it
+/// does nothing when it runs.
+pub fn flat_example()
+    ensures { FlatExample }
 {
 }

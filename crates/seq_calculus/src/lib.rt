@@ -2,5 +2,9 @@
 #![tactic(auto)]
 
 mod laws;
+mod lists;
+mod proof;
 
-pub use laws::{closed_instances, closedness, substitution, weakening};
+pub use laws::{closed_instances, closedness, flat_example, substitution, weakening};
+pub use lists::{ProofNode, ProofStep};
+pub use proof::SeqProof;
