@@ -6,6 +6,7 @@ use Rattle.core_expr.specs.Tree.{Tree, Parts}
 use Rattle.core_expr.specs.Tree.Tree.{bound, app, node, bind}
 use Rattle.core_expr.specs.Tree.Parts.{end, part}
 use Rattle.core_expr.specs.Put.{sub}
+use Rattle.core_expr.specs.Nodes.{canon_sym}
 use Rattle.core_expr.specs.Terms.{same_sym}
 
 -- every occurrence of a symbol, in prefix order, before what follows
@@ -44,8 +45,8 @@ abbrev pub own_arguments : ℕ → Parts
 own_arguments zero = end
 own_arguments (suc n) = part (bound n) (own_arguments n)
 
-abbrev pub canon_sym : ℕ → ℕ → Sym
-canon_sym n a = record { kind = Canon; number = n; arity = a }
+
+
 
 abbrev pub numbered : Sym → Option ℕ → Option Tree
 numbered f None = None

@@ -6,7 +6,7 @@ use Rattle.core_expr.specs.Tree.Parts.{end}
 use Rattle.tableau_definition.specs.Branches.{Branch, has}
 use Rattle.tableau_definition.specs.Search.{End}
 use Rattle.tableau_definition.specs.Search.End.{Closed, Saturated, Spent}
-use Rattle.proof_manager.specs.Canonical.{canon_sym}
+use Rattle.core_expr.specs.Nodes.{canon_sym}
 
 abbrev pub Bytes : Type 0
 Bytes = List ℕ
@@ -58,8 +58,8 @@ count_text false = codes "1 theorems, 0 proved"
 
 -- the report on one theorem, whose word THEOREM stands at 3:1 and whose leaf stands in line 3 at this column
 unfoldable pub report : Bytes → Bytes → ℕ → List Bytes → End → Bytes
-report module theorem column names e =
-    line (codes "module " ++ module)
+report name theorem column names e =
+    line (codes "module " ++ name)
     ++ line (codes "theorem " ++ theorem ++ codes " 3:1 " ++ status_text (is_proved e))
     ++ line (codes "  leaf 3:" ++ decimal column ++ codes " " ++ verdict_text names e)
     ++ line (count_text (is_proved e))

@@ -1,5 +1,5 @@
 -- The statement of the theorem of a first-form text: names joined by /\ imply a name.
-use Rattle.std.specs.Prelude.{ℕ, List, [], ◌∷◌, ◌++◌, map, length}
+use Rattle.std.specs.Prelude.{ℕ, false, List, [], ◌∷◌, map, length}
 use Rattle.core_expr.specs.declared.head.Sym.{Sym}
 use Rattle.core_expr.specs.declared.head.SymKind.TheVariants.{Constant}
 use Rattle.core_expr.specs.Tree.{Tree, and_, imp_}

@@ -1,0 +1,4 @@
+pub mod Canonical
+pub mod Statement
+pub mod Words
+pub mod Report
