@@ -2,3 +2,4 @@ pub mod Canonical
 pub mod Statement
 pub mod Words
 pub mod Report
+pub mod Status

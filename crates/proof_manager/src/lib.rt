@@ -1,6 +1,8 @@
 //! The top call: from the words of the command and the modules to the report.
 #![tactic(auto)]
 
+mod status;
 mod words;
 
+pub use status::Status;
 pub use tla_ast::{Kind, Place};
