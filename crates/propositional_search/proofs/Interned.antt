@@ -8,7 +8,7 @@ use Rattle.core_expr.specs.Tree.{Tree, true_}
 use Rattle.propositional_search.specs.declared.node.Node.{Node}
 use Rattle.propositional_search.specs.declared.node.Node.TheVariants.{True, False, Symbol, Not, And, Or, Implies, Iff}
 use Rattle.propositional_search.specs.contracts.node.NodePartialEq.TheImpl.{eq-value}
-use Rattle.propositional_search.specs.Nodes.{tree_of, tree_in, trees_from, trees_of, tree_at, Below, IsDistinct, IsBank, IsArena, Extends, Adds}
+use Rattle.propositional_search.specs.Nodes.{tree_of, tree_in, trees_from, trees_of, tree_at, Below, IsDistinct, IsBank, IsArena, Extends, Adds, Grows}
 use Rattle.propositional_search.proofs.NodeLaws.{IsBank-push, trees_of-push, length-trees_of}
 
 pub node_eq-true : (m n : Node) → eq-value.it m n ≡ true → m ≡ n
@@ -55,16 +55,17 @@ pub record Interned (ns new : List Node) (n : Node) (i : ℕ) : Type 0 where
   pub arena : IsArena new
   pub extends : Extends ns new
   pub made : Adds ns new i (tree_in (trees_of ns) n)
+  pub grows : Grows ns new n
 
 pub Extends-same : (ns new : List Node) → new ≡ ns → Extends ns new
 unfolding Extends
 Extends-same ns new e = rw e (λ i h. (h, refl))
 
 found : (ns : List Node) (n k : Node) (i : ℕ) → IsArena ns → slice_get ns i ≡ Some k → eq-value.it n k ≡ true → Interned ns ns n i
-unfolding IsArena Adds
+unfolding IsArena Adds Grows
 found ns n k i a e h =
     let p = at_place ns i k e in
-    record { arena = a; extends = Extends-same ns ns refl; made = (p.0, a.tree i p.0 ∙ ap (λ m. tree_in (trees_of ns) m) (p.1 ∙ sym (node_eq-true n k h))) }
+    record { arena = a; extends = Extends-same ns ns refl; made = (p.0, a.tree i p.0 ∙ ap (λ m. tree_in (trees_of ns) m) (p.1 ∙ sym (node_eq-true n k h))); grows = inl refl }
 
 pub Extends-push : (ns : List Node) (n : Node) → Extends ns (ns ++ n ∷ [])
 unfolding Extends
@@ -79,13 +80,14 @@ last_tree : (ns : List Node) (n : Node) → tree_at (ns ++ n ∷ []) (length ns)
 last_tree ns n = ap (λ ts. tree_of ts (length ns)) (trees_of-push ns n) ∙ get_or_push (trees_of ns) (tree_in (trees_of ns) n) true_ (length ns) (length-trees_of ns)
 
 added : (ns : List Node) (n k : Node) (i : ℕ) → IsArena ns → Below (length ns) n → list_any (eq-value.it n) ns ≡ false → slice_get (ns ++ n ∷ []) i ≡ Some k → eq-value.it n k ≡ true → Interned ns (ns ++ n ∷ []) n i
-unfolding Adds
+unfolding Adds Grows
 added ns n k i a b f e h =
     let p = at_place (ns ++ n ∷ []) i k e in
     record {
       arena = Arena-push ns n a b f;
       extends = Extends-push ns n;
       made = (p.0, place p.0 (p.1 ∙ sym (node_eq-true n k h)));
+      grows = inr refl;
     }
   where
     place : i < length (ns ++ n ∷ []) → get_or (ns ++ n ∷ []) i True ≡ n → tree_at (ns ++ n ∷ []) i ≡ tree_in (trees_of ns) n

@@ -1,6 +1,6 @@
 ghost use Rattle.std.specs.Prelude.{◌≡◌, ◌<◌, [], length, IfOk, OnErr};
 ghost use Rattle.core_expr.specs.Tree.{true_, false_, not_, and_, or_, imp_, iff_};
-ghost use Rattle.propositional_search.specs.Nodes.{Below, Extends, Adds, tree_at, tree_in, trees_of, symbol_};
+ghost use Rattle.propositional_search.specs.Nodes.{Below, Extends, Adds, Grows, tree_at, tree_in, trees_of, symbol_};
 
 use crate::node::Node;
 use core_expr::Memory;
@@ -42,6 +42,7 @@ impl Formulas {
         requires { Below (length self.old) node }
         ensures extends { Extends self.old self.new }
         ensures made { IfOk result (λ i. Adds self.old self.new i (tree_in (trees_of self.old) node)) }
+        ensures grows { IfOk result (λ _. Grows self.old self.new node) }
     {
         let (place, _) = self.nodes.insert_full(node)?;
         Ok(place)

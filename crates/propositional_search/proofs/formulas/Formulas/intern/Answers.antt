@@ -19,3 +19,6 @@ returns-clause-extends c = (all_of c).extends
 
 pub returns-clause-made : goal.returns-clause-made
 returns-clause-made c = (all_of c).made
+
+pub returns-clause-grows : goal.returns-clause-grows
+returns-clause-grows c = (all_of c).grows
