@@ -8,6 +8,8 @@ use Rattle.propositional_search.specs.declared.branch.Entry.{Entry}
 use Rattle.propositional_search.specs.declared.branch.Added.{Added}
 use Rattle.propositional_search.specs.declared.branch.Added.TheVariants.{Nothing, One, Two}
 use Rattle.propositional_search.specs.declared.rules.Sides.{Sides}
+use Rattle.propositional_search.specs.declared.choose.Decision.{Decision}
+use Rattle.propositional_search.specs.declared.choose.Decision.TheVariants.{Closes, Stuck, Alone, Splits}
 use Rattle.propositional_search.specs.declared.values.Truth.{Truth}
 use Rattle.propositional_search.specs.declared.values.Truth.TheVariants.{Yes, No, Unknown}
 
@@ -133,3 +135,81 @@ with_value stands denied vs n = vs ++ value_at (flag_at stands (length vs)) (fla
 -- the value of each formula, from those before it
 unfoldable pub values_in : List Node → List Bool → List Bool → List Truth
 values_in ns stands denied = fold (with_value stands denied) [] ns
+
+abbrev pub is_true_node : Node → Bool
+is_true_node True = true
+is_true_node _ = false
+
+abbrev pub shuts : List Node → List Bool → Node → Bool
+shuts ns stands False = true
+shuts ns stands (Not a) = elim (is_true_node (node_at ns a)) [ true ↦ true | false ↦ flag_at stands a ]
+shuts ns stands _ = false
+
+abbrev pub closes : List Node → List Bool → List Entry → Bool
+closes ns stands [] = false
+closes ns stands (e ∷ es) = elim (shuts ns stands (node_at ns e.formula)) [ true ↦ true | false ↦ closes ns stands es ]
+
+-- the first entry, from the k-th on, at which the rule has an answer
+abbrev pub first_found : {X : Type 0} → (Entry → Option X) → ℕ → List Entry → Option (ℕ × X)
+first_found rule k [] = None
+first_found rule k (e ∷ es) = elim (rule e) [ Some x ↦ Some (k, x) | None ↦ first_found rule (suc k) es ]
+
+abbrev pub live_plain : List Node → List ℕ → Entry → Option Added
+live_plain ns ps e = elim e.live [ true ↦ plain_at ns ps e.formula | false ↦ None ]
+
+abbrev pub live_split : List Node → List ℕ → Entry → Option Sides
+live_split ns ps e = elim e.live [ true ↦ split_at ns ps e.formula | false ↦ None ]
+
+abbrev pub yes_of : Truth → Bool
+yes_of Yes = true
+yes_of _ = false
+
+abbrev pub no_of : Truth → Bool
+no_of No = true
+no_of _ = false
+
+abbrev pub is_yes : List Truth → ℕ → Bool
+is_yes vs i = yes_of (truth_at vs i)
+
+abbrev pub is_no : List Truth → ℕ → Bool
+is_no vs i = no_of (truth_at vs i)
+
+abbrev pub all_yes : List Truth → Added → Bool
+all_yes vs Nothing = true
+all_yes vs (One i) = is_yes vs i
+all_yes vs (Two i j) = elim (is_yes vs i) [ true ↦ is_yes vs j | false ↦ false ]
+
+abbrev pub some_no : List Truth → Added → Bool
+some_no vs Nothing = false
+some_no vs (One i) = is_no vs i
+some_no vs (Two i j) = elim (is_no vs i) [ true ↦ true | false ↦ is_no vs j ]
+
+-- what a split adds where the branch's values settle it
+abbrev pub settled_by : List Truth → Sides → Option Added
+settled_by vs s =
+    elim (all_yes vs s.left) [
+      | true ↦ Some Nothing
+      | false ↦ elim (all_yes vs s.right) [
+        | true ↦ Some Nothing
+        | false ↦ elim (some_no vs s.left) [ true ↦ Some s.right | false ↦ elim (some_no vs s.right) [ true ↦ Some s.left | false ↦ None ] ]
+      ]
+    ]
+
+abbrev pub live_settled : List Node → List ℕ → List Truth → Entry → Option Added
+live_settled ns ps vs e = elim (live_split ns ps e) [ Some s ↦ settled_by vs s | None ↦ None ]
+
+-- where an entry splits, the oldest that settles comes first
+unfoldable pub settle_or_split : List Node → List ℕ → List Bool → List Entry → Decision
+settle_or_split ns ps stands es =
+    elim (first_found (live_split ns ps) 0 es) [
+      | None ↦ Stuck
+      | Some p ↦ elim (first_found (live_settled ns ps (values_in ns stands (denied_in ns es))) 0 es) [ Some q ↦ Alone q.0 q.1 | None ↦ Splits p.0 p.1 ]
+    ]
+
+-- what a turn does with a branch
+unfoldable pub decided : List Node → List ℕ → List Entry → Decision
+decided ns ps es =
+    elim (closes ns (stands_in (length ns) es) es) [
+      | true ↦ Closes
+      | false ↦ elim (first_found (live_plain ns ps) 0 es) [ Some p ↦ Alone p.0 p.1 | None ↦ settle_or_split ns ps (stands_in (length ns) es) es ]
+    ]

@@ -4,6 +4,7 @@
 #![tactic(auto)]
 
 mod branch;
+mod choose;
 mod formulas;
 mod node;
 mod rules;
