@@ -1,1 +1,3 @@
 pub mod NodeLaws
+pub mod Interned
+pub mod StepLaws

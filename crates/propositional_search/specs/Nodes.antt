@@ -1,5 +1,5 @@
 -- Nodes, and the trees that they stand for.
-use Rattle.std.specs.Prelude.{◌≡◌, ℕ, ◌<◌, List, [], ◌∷◌, ◌++◌, length}
+use Rattle.std.specs.Prelude.{◌≡◌, ◌⊎◌, ℕ, ◌<◌, List, [], ◌∷◌, ◌++◌, length}
 use Rattle.std.proofs.Common.{get_or}
 use Rattle.core_expr.specs.declared.head.SymKind.TheVariants.{Canon}
 use Rattle.core_expr.specs.Tree.{Tree, true_, false_, not_, and_, or_, imp_, iff_}
@@ -72,3 +72,7 @@ Extends old new = (i : ℕ) → i < length old → (i < length new) × (tree_at 
 -- a place of the new list, which has the tree
 unfoldable pub Adds : List Node → List Node → ℕ → Tree → Type 0
 Adds old new i t = (i < length new) × (tree_at new i ≡ t)
+
+-- the node is the last of the new list, or was there
+unfoldable pub Grows : List Node → List Node → Node → Type 0
+Grows old new n = (new ≡ old) ⊎ (new ≡ old ++ n ∷ [])

@@ -1,6 +1,6 @@
 ghost use Rattle.std.specs.Prelude.{◌≡◌, ◌<◌, [], length, IfOk, OnErr};
 ghost use Rattle.core_expr.specs.Tree.{true_, false_, not_, and_, or_, imp_, iff_};
-ghost use Rattle.propositional_search.specs.Nodes.{Below, Extends, Adds, tree_at, tree_in, trees_of, symbol_};
+ghost use Rattle.propositional_search.specs.Nodes.{Below, Extends, Adds, Grows, tree_at, tree_in, trees_of, symbol_};
 
 use crate::node::Node;
 use core_expr::Memory;
@@ -42,6 +42,7 @@ impl Formulas {
         requires { Below (length self.old) node }
         ensures extends { Extends self.old self.new }
         ensures made { IfOk result (λ i. Adds self.old self.new i (tree_in (trees_of self.old) node)) }
+        ensures grows { IfOk result (λ _. Grows self.old self.new node) }
     {
         let (place, _) = self.nodes.insert_full(node)?;
         Ok(place)
@@ -53,5 +54,70 @@ impl Formulas {
         ensures made { IfOk result (λ i. Adds self.old self.new i true_) }
     {
         Ok(self.intern(Node::True)?)
+    }
+
+    /// The place of FALSE.
+    pub fn falsity(&mut self) -> Result<usize, Memory>
+        ensures extends { Extends self.old self.new }
+        ensures made { IfOk result (λ i. Adds self.old self.new i false_) }
+    {
+        Ok(self.intern(Node::False)?)
+    }
+
+    /// The place of the symbol of a canonical form with this number, without arguments.
+    pub fn symbol(&mut self, number: u64) -> Result<usize, Memory>
+        ensures extends { Extends self.old self.new }
+        ensures made { IfOk result (λ i. Adds self.old self.new i (symbol_ number)) }
+    {
+        Ok(self.intern(Node::Symbol(number))?)
+    }
+
+    /// The place of the negation of the formula at a place.
+    pub fn not(&mut self, part: usize) -> Result<usize, Memory>
+        requires { part < length self.old }
+        ensures extends { Extends self.old self.new }
+        ensures made { IfOk result (λ i. Adds self.old self.new i (not_ (tree_at self.old part))) }
+    {
+        Ok(self.intern(Node::Not(part))?)
+    }
+
+    /// The place of the conjunction of the formulas at two places.
+    pub fn and(&mut self, left: usize, right: usize) -> Result<usize, Memory>
+        requires left { left < length self.old }
+        requires right { right < length self.old }
+        ensures extends { Extends self.old self.new }
+        ensures made { IfOk result (λ i. Adds self.old self.new i (and_ (tree_at self.old left) (tree_at self.old right))) }
+    {
+        Ok(self.intern(Node::And(left, right))?)
+    }
+
+    /// The place of the disjunction of the formulas at two places.
+    pub fn or(&mut self, left: usize, right: usize) -> Result<usize, Memory>
+        requires left { left < length self.old }
+        requires right { right < length self.old }
+        ensures extends { Extends self.old self.new }
+        ensures made { IfOk result (λ i. Adds self.old self.new i (or_ (tree_at self.old left) (tree_at self.old right))) }
+    {
+        Ok(self.intern(Node::Or(left, right))?)
+    }
+
+    /// The place of the implication of the formulas at two places.
+    pub fn implies(&mut self, left: usize, right: usize) -> Result<usize, Memory>
+        requires left { left < length self.old }
+        requires right { right < length self.old }
+        ensures extends { Extends self.old self.new }
+        ensures made { IfOk result (λ i. Adds self.old self.new i (imp_ (tree_at self.old left) (tree_at self.old right))) }
+    {
+        Ok(self.intern(Node::Implies(left, right))?)
+    }
+
+    /// The place of the equivalence of the formulas at two places.
+    pub fn iff(&mut self, left: usize, right: usize) -> Result<usize, Memory>
+        requires left { left < length self.old }
+        requires right { right < length self.old }
+        ensures extends { Extends self.old self.new }
+        ensures made { IfOk result (λ i. Adds self.old self.new i (iff_ (tree_at self.old left) (tree_at self.old right))) }
+    {
+        Ok(self.intern(Node::Iff(left, right))?)
     }
 }

@@ -3,8 +3,12 @@
 //! To the layers above this crate promises that `decide` answers the end of the written search's first edition.
 #![tactic(auto)]
 
+mod branch;
+mod choose;
 mod formulas;
 mod node;
+mod rules;
+mod values;
 
 pub use formulas::Formulas;
 pub use node::Node;
