@@ -3,3 +3,4 @@ pub mod Statement
 pub mod Words
 pub mod Report
 pub mod Status
+pub mod Numbering

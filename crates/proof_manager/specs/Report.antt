@@ -1,5 +1,5 @@
 -- The report of a run on one theorem.
-use Rattle.std.specs.Prelude.{ℕ, suc, Bool, true, false, List, [], ◌∷◌, ◌++◌, codes, decimal}
+use Rattle.std.specs.Prelude.{ℕ, zero, suc, Bool, true, false, List, [], ◌∷◌, ◌++◌, length, codes, decimal}
 use Rattle.core_expr.specs.Tree.{Tree}
 use Rattle.core_expr.specs.Tree.Tree.{app}
 use Rattle.core_expr.specs.Tree.Parts.{end}
@@ -19,28 +19,35 @@ line text = text ++ 10 ∷ []
 abbrev pub value_on : Branch → ℕ → Bool
 value_on b i = has b (app (canon_sym i 0) end)
 
+-- the values of n symbols from the number i on
+abbrev pub values_from : Branch → ℕ → ℕ → List Bool
+values_from b i zero = []
+values_from b i (suc n) = value_on b i ∷ values_from b (suc i) n
+
 abbrev pub truth_text : Bool → Bytes
 truth_text true = codes "TRUE"
 truth_text false = codes "FALSE"
 
 -- a symbol's name and its value
-abbrev pub value_text : Branch → ℕ → Bytes → Bytes
-value_text b i name = name ++ codes " = " ++ truth_text (value_on b i)
+abbrev pub value_text : Bytes → Bool → Bytes
+value_text name value = name ++ codes " = " ++ truth_text value
 
--- the values of the symbols from the number i on, each but the first after a comma and a blank
-abbrev pub more_values : Branch → ℕ → List Bytes → Bytes
-more_values b i [] = []
-more_values b i (name ∷ names) = codes ", " ++ value_text b i name ++ more_values b (suc i) names
+-- names and their values, each after a comma and a blank
+abbrev pub more_values : List Bytes → List Bool → Bytes
+more_values [] values = []
+more_values (name ∷ names) [] = []
+more_values (name ∷ names) (value ∷ values) = codes ", " ++ value_text name value ++ more_values names values
 
--- the values of the symbols with these names, in canonical order
-abbrev pub valuation_text : Branch → List Bytes → Bytes
-valuation_text b [] = []
-valuation_text b (name ∷ names) = value_text b 0 name ++ more_values b 1 names
+-- names and their values, with a comma and a blank between each two
+abbrev pub valuation_text : List Bytes → List Bool → Bytes
+valuation_text [] values = []
+valuation_text (name ∷ names) [] = []
+valuation_text (name ∷ names) (value ∷ values) = value_text name value ++ more_values names values
 
 -- what is printed of the end of a search
 abbrev pub verdict_text : List Bytes → End → Bytes
 verdict_text names (Closed n) = codes "proved, " ++ decimal n ++ codes " turns"
-verdict_text names (Saturated b n) = codes "saturated, " ++ decimal n ++ codes " turns: " ++ valuation_text b names
+verdict_text names (Saturated b n) = codes "saturated, " ++ decimal n ++ codes " turns: " ++ valuation_text names (values_from b 0 (length names))
 verdict_text names (Spent n) = codes "spent, " ++ decimal n ++ codes " turns"
 
 abbrev pub is_proved : End → Bool

@@ -1,7 +1,9 @@
 //! The top call: from the words of the command and the modules to the report.
 #![tactic(auto)]
 
+mod numbering;
 mod status;
+mod valuation;
 mod words;
 
 pub use status::Status;
