@@ -12,11 +12,28 @@ Gives (Ok x) found = found ≡ Some x
 Gives (Err stop.Memory) found = Unit {0}
 Gives (Err stop.NotOfForm) found = found ≡ None
 
+-- the text stands there, up to this place of the bytes, and what follows it is left
+abbrev pub Stands : Text → Option ℕ → Option Text → Type 0
+Stands bytes (Some end) found = (found ≡ Some (drop end bytes)) × (end ≤ length bytes)
+Stands bytes None found = found ≡ None
+
 -- the step ended at this place of the bytes, and left what follows it
 abbrev pub Ends : Text → Result ℕ Stop → Option Text → Type 0
 Ends bytes (Ok end) found = (found ≡ Some (drop end bytes)) × (end ≤ length bytes)
 Ends bytes (Err stop.Memory) found = Unit {0}
 Ends bytes (Err stop.NotOfForm) found = found ≡ None
+
+-- the step read a value, ended at a place of the bytes, and left what follows it
+abbrev pub Leaves : {R A : Type 0} → (R → A) → (R → ℕ) → Text → Result R Stop → Option (A × Text) → Type 0
+Leaves value end bytes (Ok r) found = (found ≡ Some (value r, drop (end r) bytes)) × (end r ≤ length bytes)
+Leaves value end bytes (Err stop.Memory) found = Unit {0}
+Leaves value end bytes (Err stop.NotOfForm) found = found ≡ None
+
+-- a step's values, told by its result
+abbrev pub Tells : {R A : Type 0} → (R → A) → Result R Stop → Option A → Type 0
+Tells value (Ok r) found = found ≡ Some (value r)
+Tells value (Err stop.Memory) found = ⊥
+Tells value (Err stop.NotOfForm) found = found ≡ None
 
 -- what follows this text, where it stands at the front
 abbrev pub cut : Text → Text → Option Text
@@ -56,17 +73,24 @@ abbrev pub header : Text → Text → Option Text
 header module_name z =
     option_and_then (cut (codes " ----\n")) (option_and_then (cut module_name) (cut (codes "---- MODULE ") z))
 
--- two or more names
-abbrev pub several : List Text × Text → Option (List Text × Text)
-several p = if nat_lt 1 (length p.0) then Some p else None
+abbrev pub two_or_more : List Text × Text → Option (List Text × Text)
+two_or_more p = if nat_lt (length p.0) 2 then None else Some p
+
+-- two or more names, and what follows them
+abbrev pub several : Text → Option (List Text × Text)
+several z = option_and_then two_or_more (names (codes ", ") z)
+
+-- one name alone
+abbrev pub single : Text → Option (List Text × Text)
+single z = option_and_then (λ p. Some (p.0 ∷ [], p.1)) (name z)
 
 -- the declared names, and what follows the second line
 abbrev pub constants : Text → Option (List Text × Text)
 constants z = by_word (cut (codes "CONSTANT ") z)
   where
     by_word : Option Text → Option (List Text × Text)
-    by_word (Some r) = option_and_then (λ p. Some (p.0 ∷ [], p.1)) (name r)
-    by_word None = option_and_then (λ r. option_and_then several (names (codes ", ") r)) (cut (codes "CONSTANTS ") z)
+    by_word (Some r) = single r
+    by_word None = option_and_then several (cut (codes "CONSTANTS ") z)
 
 -- the hypotheses and the conclusion of a formula
 pub record Formula : Type 0 where
@@ -74,7 +98,7 @@ pub record Formula : Type 0 where
   pub conclusion : Text
 
 -- a formula that is its conclusion alone
-abbrev pub alone : List Text → Text → Option (Formula × Text)
+abbrev pub alone : {R : Type 0} → List Text → R → Option (Formula × R)
 alone [] rest = None
 alone (n ∷ []) rest = Some (record { hypotheses = []; conclusion = n }, rest)
 alone (n ∷ m ∷ ns) rest = None
@@ -86,3 +110,18 @@ formula z = option_and_then (λ p. by_arrow p (cut (codes " => ") p.1)) (names (
     by_arrow : List Text × Text → Option Text → Option (Formula × Text)
     by_arrow p None = alone p.0 p.1
     by_arrow p (Some r) = option_and_then (λ q. Some (record { hypotheses = p.0; conclusion = q.0 }, q.1)) (name r)
+
+-- the theorem's name, and what follows its definition sign
+abbrev pub title : Text → Option (Text × Text)
+title z = option_and_then (λ t. option_and_then (λ r. Some (t.0, r)) (cut (codes " == ") t.1)) (option_and_then name (cut (codes "THEOREM ") z))
+
+-- the theorem's name and formula, and the column of the word OBVIOUS
+pub record Statement : Type 0 where
+  pub theorem : Text
+  pub formula : Formula
+  pub column : ℕ
+
+-- the third line, and what follows it
+abbrev pub statement : Text → Option (Statement × Text)
+statement z =
+    option_and_then (λ t. option_and_then (λ f. option_and_then (λ r. Some (record { theorem = t.0; formula = f.0; column = length z - length f.1 + 2 }, r)) (cut (codes " OBVIOUS") f.1)) (formula t.1)) (title z)

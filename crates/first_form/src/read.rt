@@ -1,7 +1,8 @@
-ghost use Rattle.std.specs.Prelude.{◌≡◌, ◌+◌, ◌≤◌, ◌<◌, length, drop};
+ghost use Rattle.std.specs.Prelude.{◌≡◌, ◌+◌, ◌≤◌, ◌<◌, length, drop, IfOk, IfSome};
 ghost use Rattle.first_form.specs.Reading as reading;
 
 use core_expr::{Memory, Text};
+use sqlite_items::Items;
 use std::alloc::{AllocError, Global};
 
 use crate::names::{is_identifier, is_word};
@@ -35,15 +36,28 @@ impl From<Memory> for Stop {
     }
 }
 
-/// The place after this text, which is to stand at a place of the bytes.
-fn skip(bytes: &[u8], at: usize, text: &[u8]) -> Result<usize, Stop>
+/// The place after this text, where it stands at a place of the bytes.
+fn skip(bytes: &[u8], at: usize, text: &[u8]) -> Option<usize>
     requires { at ≤ length bytes.now }
-    ensures { reading.Ends bytes.now result (reading.cut text.now (drop at bytes.now)) }
+    ensures value { reading.Stands bytes.now result (reading.cut text.now (drop at bytes.now)) }
+    ensures place { IfSome result (λ end. end ≡ at + length text.now) }
 {
     if bytes[at..].starts_with(text) {
-        Ok(at + text.len())
+        Some(at + text.len())
     } else {
-        Err(Stop::NotOfForm)
+        None
+    }
+}
+
+/// The place after this text, which must stand at a place of the bytes.
+fn expect(bytes: &[u8], at: usize, text: &[u8]) -> Result<usize, Stop>
+    requires { at ≤ length bytes.now }
+    ensures value { reading.Ends bytes.now result (reading.cut text.now (drop at bytes.now)) }
+    ensures place { IfOk result (λ end. end ≡ at + length text.now) }
+{
+    match skip(bytes, at, text) {
+        Some(end) => Ok(end),
+        None => Err(Stop::NotOfForm),
     }
 }
 
@@ -58,4 +72,155 @@ fn word_end(bytes: &[u8], at: usize) -> usize
         end += 1;
     }
     end
+}
+
+/// A name, and the place after it.
+#[derive(Drop)]
+struct FoundName {
+    text: Text,
+    end: usize,
+}
+
+/// The name at a place.
+fn name(alloc: Global, bytes: &[u8], at: usize) -> Result<FoundName, Stop>
+    requires { at ≤ length bytes.now }
+    ensures value { reading.Leaves (λ n. n.text) (λ n. n.end) bytes.now result (reading.name (drop at bytes.now)) }
+    ensures place { IfOk result (λ n. at ≤ n.end) }
+{
+    let end = word_end(bytes, at);
+    let word = &bytes[at..end];
+    if !is_identifier(word) {
+        return Err(Stop::NotOfForm);
+    }
+    let text = Text::of(alloc, word)?;
+    Ok(FoundName { text, end })
+}
+
+/// Names, and the place after the last.
+#[derive(Drop)]
+struct FoundNames {
+    names: Items<Text>,
+    end: usize,
+}
+
+/// The names at a place, one or more, with the separator between each two.
+fn names(alloc: Global, bytes: &[u8], at: usize, separator: &[u8]) -> Result<FoundNames, Stop>
+    requires within { at ≤ length bytes.now }
+    requires some { 0 < length separator.now }
+    ensures value { reading.Leaves (λ n. n.names) (λ n. n.end) bytes.now result (reading.names separator.now (drop at bytes.now)) }
+    ensures place { IfOk result (λ n. at ≤ n.end) }
+{
+    let first = name(alloc, bytes, at)?;
+    let mut end = first.end;
+    let mut names = Items::new(alloc);
+    names.push(first.text)?;
+    while let Some(next) = skip(bytes, end, separator) {
+        let one = name(alloc, bytes, next)?;
+        names.push(one.text)?;
+        end = one.end;
+    }
+    Ok(FoundNames { names, end })
+}
+
+/// Two or more names.
+fn several(alloc: Global, bytes: &[u8], at: usize) -> Result<FoundNames, Stop>
+    requires { at ≤ length bytes.now }
+    ensures value { reading.Leaves (λ n. n.names) (λ n. n.end) bytes.now result (reading.several (drop at bytes.now)) }
+    ensures place { IfOk result (λ n. at ≤ n.end) }
+{
+    let found = names(alloc, bytes, at, b", ")?;
+    if found.names.len() < 2 {
+        return Err(Stop::NotOfForm);
+    }
+    Ok(found)
+}
+
+/// One name alone.
+fn single(alloc: Global, bytes: &[u8], at: usize) -> Result<FoundNames, Stop>
+    requires { at ≤ length bytes.now }
+    ensures value { reading.Leaves (λ n. n.names) (λ n. n.end) bytes.now result (reading.single (drop at bytes.now)) }
+    ensures place { IfOk result (λ n. at ≤ n.end) }
+{
+    let one = name(alloc, bytes, at)?;
+    let mut names = Items::new(alloc);
+    names.push(one.text)?;
+    Ok(FoundNames { names, end: one.end })
+}
+
+/// The names that the second line declares.
+fn constants(alloc: Global, bytes: &[u8], at: usize) -> Result<FoundNames, Stop>
+    requires { at ≤ length bytes.now }
+    ensures value { reading.Leaves (λ n. n.names) (λ n. n.end) bytes.now result (reading.constants (drop at bytes.now)) }
+    ensures place { IfOk result (λ n. at ≤ n.end) }
+{
+    if let Some(next) = skip(bytes, at, b"CONSTANT ") {
+        return single(alloc, bytes, next);
+    }
+    let next = expect(bytes, at, b"CONSTANTS ")?;
+    several(alloc, bytes, next)
+}
+
+/// A formula's hypotheses and conclusion, and the place after it.
+#[derive(Drop)]
+struct FoundFormula {
+    hypotheses: Items<Text>,
+    conclusion: Text,
+    end: usize,
+}
+
+/// The formula that is one of these names, which must be the only one.
+fn alone(found: FoundNames) -> Result<FoundFormula, Stop>
+    ensures value { reading.Tells (λ f. (record { hypotheses = f.hypotheses; conclusion = f.conclusion }, f.end)) result (reading.alone found.names found.end) }
+{
+    let FoundNames { mut names, end } = found;
+    match names.pop() {
+        Some(conclusion) if names.is_empty() => Ok(FoundFormula {
+            hypotheses: names,
+            conclusion,
+            end,
+        }),
+        _ => Err(Stop::NotOfForm),
+    }
+}
+
+/// The formula at a place.
+fn formula(alloc: Global, bytes: &[u8], at: usize) -> Result<FoundFormula, Stop>
+    requires { at ≤ length bytes.now }
+    ensures value { reading.Leaves (λ f. record { hypotheses = f.hypotheses; conclusion = f.conclusion }) (λ f. f.end) bytes.now result (reading.formula (drop at bytes.now)) }
+    ensures place { IfOk result (λ f. at ≤ f.end) }
+{
+    let found = names(alloc, bytes, at, b" /\\ ")?;
+    let Some(next) = skip(bytes, found.end, b" => ") else {
+        return alone(found);
+    };
+    let last = name(alloc, bytes, next)?;
+    Ok(FoundFormula {
+        hypotheses: found.names,
+        conclusion: last.text,
+        end: last.end,
+    })
+}
+
+/// The theorem's name at a place, up to the end of its definition sign.
+fn title(alloc: Global, bytes: &[u8], at: usize) -> Result<FoundName, Stop>
+    requires { at ≤ length bytes.now }
+    ensures value { reading.Leaves (λ n. n.text) (λ n. n.end) bytes.now result (reading.title (drop at bytes.now)) }
+    ensures place { IfOk result (λ n. at ≤ n.end) }
+{
+    let next = expect(bytes, at, b"THEOREM ")?;
+    let theorem = name(alloc, bytes, next)?;
+    let end = expect(bytes, theorem.end, b" == ")?;
+    Ok(FoundName {
+        text: theorem.text,
+        end,
+    })
+}
+
+/// The place after the first line.
+fn header(bytes: &[u8], module: &[u8]) -> Result<usize, Stop>
+    ensures { reading.Ends bytes.now result (reading.header module.now bytes.now) }
+{
+    let at = expect(bytes, 0, b"---- MODULE ")?;
+    let at = expect(bytes, at, module)?;
+    expect(bytes, at, b" ----\n")
 }
