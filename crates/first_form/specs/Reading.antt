@@ -2,15 +2,17 @@
 use Rattle.std.specs.Prelude.{◌≡◌, ℕ, zero, suc, ◌+◌, ◌-◌, ◌≤◌, nat_eq, nat_lt, Bool, true, false, not, ◌&&◌, ◌||◌, if◌then◌else◌, List, [], ◌∷◌, ◌++◌, length, take, drop, position, Option, Some, None, Result, Ok, Err, codes}
 use Rattle.std.specs.List.{prefix_len, starts_with, list_any}
 use Rattle.std.specs.Option.{option_and_then}
+use Rattle.first_form.specs.declared.form.FirstForm.{FirstForm}
+use Rattle.first_form.specs.declared.read.FoundParts.{FoundParts}
 use Rattle.first_form.specs.declared.read.Stop.{Stop}
 use Rattle.first_form.specs.declared.read.Stop.TheVariants as stop
 use Rattle.first_form.specs.Names.{Text, is_word, is_identifier, same_text}
 
 -- what a step gave, unless memory ran out
-abbrev pub Gives : {A : Type 0} → Result A Stop → Option A → Type 0
-Gives (Ok x) found = found ≡ Some x
-Gives (Err stop.Memory) found = Unit {0}
-Gives (Err stop.NotOfForm) found = found ≡ None
+abbrev pub Gives : {R A : Type 0} → (R → A) → Result R Stop → Option A → Type 0
+Gives value (Ok r) found = found ≡ Some (value r)
+Gives value (Err stop.Memory) found = Unit {0}
+Gives value (Err stop.NotOfForm) found = found ≡ None
 
 -- the text stands there, up to this place of the bytes, and what follows it is left
 abbrev pub Stands : Text → Option ℕ → Option Text → Type 0
@@ -118,10 +120,87 @@ title z = option_and_then (λ t. option_and_then (λ r. Some (t.0, r)) (cut (cod
 -- the theorem's name and formula, and the column of the word OBVIOUS
 pub record Statement : Type 0 where
   pub theorem : Text
-  pub formula : Formula
+  pub hypotheses : List Text
+  pub conclusion : Text
   pub column : ℕ
+
+abbrev pub stated : Text → Text × Text → Formula × Text → Text → Statement × Text
+stated z t f rest = (record { theorem = t.0; hypotheses = f.0.hypotheses; conclusion = f.0.conclusion; column = length z - length f.1 + 2 }, rest)
 
 -- the third line, and what follows it
 abbrev pub statement : Text → Option (Statement × Text)
 statement z =
-    option_and_then (λ t. option_and_then (λ f. option_and_then (λ r. Some (record { theorem = t.0; formula = f.0; column = length z - length f.1 + 2 }, r)) (cut (codes " OBVIOUS") f.1)) (formula t.1)) (title z)
+    option_and_then (λ t. option_and_then (λ f. option_and_then (λ rest. Some (stated z t f rest)) (cut (codes " OBVIOUS") f.1)) (formula t.1)) (title z)
+
+-- the fourth line stands there, and nothing after it but a line feed
+abbrev pub is_end : Text → Bool
+is_end z = is_last (cut (codes "\n====") z)
+  where
+    is_last : Option Text → Bool
+    is_last None = false
+    is_last (Some rest) = same_text rest [] || same_text rest (codes "\n")
+
+-- what the lines say, by names
+pub record NamedParts : Type 0 where
+  pub constants : List Text
+  pub statement : Statement
+
+abbrev pub of_parts : FoundParts → NamedParts
+of_parts p = record {
+  constants = p.constants;
+  statement = record { theorem = p.statement.theorem; hypotheses = p.statement.hypotheses; conclusion = p.statement.conclusion; column = p.statement.obvious_column };
+}
+
+abbrev pub to_end : List Text → Statement × Text → Option NamedParts
+to_end constants s = if is_end s.1 then Some (record { constants = constants; statement = s.0 }) else None
+
+-- the parts of a text
+abbrev pub parts : Text → Text → Option NamedParts
+parts module_name z =
+    option_and_then (λ c. option_and_then (to_end c.0) (option_and_then statement (cut (codes "\n") c.1))) (option_and_then constants (header module_name z))
+
+-- ---- names by place
+
+-- each name is among neither these nor the names before it
+abbrev pub are_new : List Text → List Text → Bool
+are_new known [] = true
+are_new known (n ∷ ns) = if list_any (same_text n) known then false else are_new (known ++ n ∷ []) ns
+
+-- the names, where they differ from one another
+abbrev pub declared : List Text → Option (List Text)
+declared ns = if are_new [] ns then Some ns else None
+
+-- the place of a name
+abbrev pub place : List Text → Text → Option ℕ
+place names n = position (same_text n) names
+
+abbrev pub placed : Option ℕ → Option (List ℕ) → Option (List ℕ)
+placed None ps = None
+placed (Some p) None = None
+placed (Some p) (Some ps) = Some (p ∷ ps)
+
+-- the places of names
+abbrev pub places : List Text → List Text → Option (List ℕ)
+places names [] = Some []
+places names (n ∷ ns) = placed (place names n) (places names ns)
+
+abbrev pub after_places : List ℕ → Option (List ℕ) → Option (List ℕ)
+after_places ps None = None
+after_places ps (Some more) = Some (ps ++ more)
+
+-- the form of the parts, where their names are lawful
+abbrev pub placed_form : NamedParts → Option FirstForm
+placed_form p =
+    option_and_then (λ hypotheses. option_and_then (λ conclusion. Some (form hypotheses conclusion)) (place p.constants p.statement.conclusion)) (places p.constants p.statement.hypotheses)
+  where
+    form : List ℕ → ℕ → FirstForm
+    form hypotheses conclusion = record { constants = p.constants; theorem = p.statement.theorem; hypotheses = hypotheses; conclusion = conclusion; obvious_column = p.statement.column }
+
+abbrev pub lawful : NamedParts → Option FirstForm
+lawful p =
+    if nat_lt 200 (length p.statement.hypotheses) then None
+    else (if are_new [] p.constants then (if list_any (same_text p.statement.theorem) p.constants then None else placed_form p) else None)
+
+-- the form of a text
+abbrev pub form : Text → Text → Option FirstForm
+form module_name bytes = if nat_lt 1048576 (length bytes) then None else option_and_then lawful (parts module_name bytes)

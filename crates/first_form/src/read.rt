@@ -1,4 +1,4 @@
-ghost use Rattle.std.specs.Prelude.{◌≡◌, ◌+◌, ◌≤◌, ◌<◌, length, drop, IfOk, IfSome};
+ghost use Rattle.std.specs.Prelude.{◌≡◌, ◌+◌, ◌≤◌, ◌<◌, ◌^◌, length, drop, map, IfOk, IfSome};
 ghost use Rattle.first_form.specs.Reading as reading;
 
 use core_expr::{Memory, Text};
@@ -217,10 +217,76 @@ fn title(alloc: Global, bytes: &[u8], at: usize) -> Result<FoundName, Stop>
 }
 
 /// The place after the first line.
-fn header(bytes: &[u8], module: &[u8]) -> Result<usize, Stop>
-    ensures { reading.Ends bytes.now result (reading.header module.now bytes.now) }
+fn header(bytes: &[u8], module_name: &[u8]) -> Result<usize, Stop>
+    ensures { reading.Ends bytes.now result (reading.header module_name.now bytes.now) }
 {
     let at = expect(bytes, 0, b"---- MODULE ")?;
-    let at = expect(bytes, at, module)?;
+    let at = expect(bytes, at, module_name)?;
     expect(bytes, at, b" ----\n")
+}
+
+/// What the third line says, and the place after it.
+#[derive(Drop)]
+struct FoundStatement {
+    theorem: Text,
+    hypotheses: Items<Text>,
+    conclusion: Text,
+    obvious_column: u64,
+    end: usize,
+}
+
+/// The third line at a place.
+fn statement(alloc: Global, bytes: &[u8], at: usize) -> Result<FoundStatement, Stop>
+    requires within { at ≤ length bytes.now }
+    requires short { length bytes.now < 2 ^ 62 }
+    ensures value { reading.Leaves (λ s. record { theorem = s.theorem; hypotheses = s.hypotheses; conclusion = s.conclusion; column = s.obvious_column }) (λ s. s.end) bytes.now result (reading.statement (drop at bytes.now)) }
+{
+    let title = title(alloc, bytes, at)?;
+    let formula = formula(alloc, bytes, title.end)?;
+    let end = expect(bytes, formula.end, b" OBVIOUS")?;
+    let obvious_column = (formula.end - at) as u64 + 2;
+    Ok(FoundStatement {
+        theorem: title.text,
+        hypotheses: formula.hypotheses,
+        conclusion: formula.conclusion,
+        obvious_column,
+        end,
+    })
+}
+
+/// Whether the fourth line stands at a place, and nothing after it but a line feed.
+fn is_end(bytes: &[u8], at: usize) -> bool
+    requires { at ≤ length bytes.now }
+    ensures { result ≡ reading.is_end (drop at bytes.now) }
+{
+    let Some(next) = skip(bytes, at, b"\n====") else {
+        return false;
+    };
+    let rest = &bytes[next..];
+    rest == b"".as_slice() || rest == b"\n".as_slice()
+}
+
+/// What the lines say, by names.
+#[derive(Drop)]
+struct FoundParts {
+    constants: Items<Text>,
+    statement: FoundStatement,
+}
+
+/// The parts of a text.
+fn parts(alloc: Global, bytes: &[u8], module_name: &[u8]) -> Result<FoundParts, Stop>
+    requires { length bytes.now < 2 ^ 62 }
+    ensures { reading.Gives reading.of_parts result (reading.parts module_name.now bytes.now) }
+{
+    let first = header(bytes, module_name)?;
+    let constants = constants(alloc, bytes, first)?;
+    let third = expect(bytes, constants.end, b"\n")?;
+    let statement = statement(alloc, bytes, third)?;
+    if !is_end(bytes, statement.end) {
+        return Err(Stop::NotOfForm);
+    }
+    Ok(FoundParts {
+        constants: constants.names,
+        statement,
+    })
 }
