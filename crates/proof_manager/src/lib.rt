@@ -3,7 +3,7 @@
 
 mod numbering;
 mod status;
-mod valuation;
+
 mod words;
 
 pub use status::Status;
