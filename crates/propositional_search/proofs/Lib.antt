@@ -1,3 +1,6 @@
 pub mod NodeLaws
 pub mod Interned
 pub mod StepLaws
+pub mod Shows
+pub mod RunLaws
+pub mod RuleLaws
