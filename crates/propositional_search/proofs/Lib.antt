@@ -4,3 +4,5 @@ pub mod StepLaws
 pub mod Shows
 pub mod RunLaws
 pub mod RuleLaws
+pub mod Marks
+pub mod ValueLaws
