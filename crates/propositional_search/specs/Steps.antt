@@ -10,6 +10,8 @@ use Rattle.propositional_search.specs.declared.branch.Added.TheVariants.{Nothing
 use Rattle.propositional_search.specs.declared.rules.Sides.{Sides}
 use Rattle.propositional_search.specs.declared.choose.Decision.{Decision}
 use Rattle.propositional_search.specs.declared.choose.Decision.TheVariants.{Closes, Stuck, Alone, Splits}
+use Rattle.propositional_search.specs.declared.search.Ending.{Ending}
+use Rattle.propositional_search.specs.declared.search.Ending.TheVariants.{Closed, Saturated, Spent}
 use Rattle.propositional_search.specs.declared.values.Truth.{Truth}
 use Rattle.propositional_search.specs.declared.values.Truth.TheVariants.{Yes, No, Unknown}
 
@@ -213,3 +215,40 @@ decided ns ps es =
       | true ↦ Closes
       | false ↦ elim (first_found (live_plain ns ps) 0 es) [ Some p ↦ Alone p.0 p.1 | None ↦ settle_or_split ns ps (stands_in (length ns) es) es ]
     ]
+
+-- the branches that a turn leaves, in order
+abbrev pub next_branches : List Entry → Decision → List (List Entry)
+next_branches b Closes = []
+next_branches b Stuck = []
+next_branches b (Alone k a) = result_of b k a ∷ []
+next_branches b (Splits k s) = result_of b k s.left ∷ result_of b k s.right ∷ []
+
+-- they come to the top of a stack, the first last
+abbrev pub advanced : List (List Entry) → List Entry → Decision → List (List Entry)
+advanced os b Closes = os
+advanced os b Stuck = os
+advanced os b (Alone k a) = os ++ result_of b k a ∷ []
+advanced os b (Splits k s) = (os ++ result_of b k s.right ∷ []) ++ result_of b k s.left ∷ []
+
+abbrev pub is_stuck : Decision → Bool
+is_stuck Stuck = true
+is_stuck _ = false
+
+-- used turns are used, and n are left
+unfoldable pub run_at : List Node → List ℕ → ℕ → ℕ → List (List Entry) → Ending
+run_at ns ps n used [] = Closed used
+run_at ns ps zero used (b ∷ bs) = elim (is_stuck (decided ns ps b)) [ true ↦ Saturated b used | false ↦ Spent used ]
+run_at ns ps (suc n) used (b ∷ bs) =
+    elim (is_stuck (decided ns ps b)) [ true ↦ Saturated b used | false ↦ run_at ns ps n (suc used) (next_branches b (decided ns ps b) ++ bs) ]
+
+-- the facts in order, then the negation of the goal
+unfoldable pub start_at : List ℕ → List ℕ → ℕ → List Entry
+start_at ps facts goal = with_place (fold with_place [] facts) (place_at ps goal)
+
+abbrev pub mark_symbol : List Bool → Node → List Bool
+mark_symbol vs (Symbol n) = slice_set vs n true
+mark_symbol vs _ = vs
+
+-- TRUE for the symbols on a branch
+unfoldable pub values_of : List Node → ℕ → List Entry → List Bool
+values_of ns n es = fold (λ vs e. mark_symbol vs (node_at ns e.formula)) (replicate n false) es

@@ -8,6 +8,7 @@ mod choose;
 mod formulas;
 mod node;
 mod rules;
+mod search;
 mod values;
 
 pub use formulas::Formulas;
