@@ -10,9 +10,8 @@ use Rattle.core_expr.specs.Tree.Parts.{end, part}
 use Rattle.core_expr.specs.Terms.{same_sym}
 use Rattle.core_expr.specs.Nodes.{canon_sym}
 use Rattle.core_expr.specs.Put.{sub, apply_body}
-use Rattle.seq_calculus.specs.Schemas.{join_from}
 use Rattle.proof_manager.specs.Canonical.{symbols, symbols_in, stands_in, in_order_after, symbol_order, place_from, numbered, renumber, canonical}
-use Rattle.proof_manager.specs.Statement.{constant_sym, leaf, implication, statement}
+use Rattle.proof_manager.specs.Statement.{constant_sym, leaf, numeral, conjunction, implication, statement}
 use Rattle.proof_manager.specs.Numbering.{different, ArePlaces}
 
 constants : List ℕ → List Sym
@@ -22,16 +21,9 @@ constants ns = map constant_sym ns
 abbrev pub constant : ℕ → Tree
 constant n = leaf (constant_sym n)
 
--- the canonical symbol with a number, as a formula
-abbrev pub numeral : ℕ → Tree
-numeral n = leaf (canon_sym n 0)
-
-abbrev conjoined : Tree → List Tree → Tree
-conjoined t us = join_from (λ a b. and_ a b) t us
-
-symbols-conjoined : (t : Tree) (ns : List ℕ) (l : List Sym) → symbols (conjoined t (map constant ns)) l ≡ symbols t (map constant_sym ns ++ l)
-symbols-conjoined t [] l = refl
-symbols-conjoined t (n ∷ ns) l = symbols-conjoined (and_ t (constant n)) ns l
+symbols-conjoined : (t : Tree) (ns : List ℕ) (l : List Sym) → symbols (conjunction t (map constant ns)) l ≡ symbols t (map constant_sym ns ++ l)
+symbols-conjunction t [] l = refl
+symbols-conjunction t (n ∷ ns) l = symbols-conjunction (and_ t (constant n)) ns l
 
 map-more : (ns : List ℕ) (c : ℕ) → map constant_sym ns ++ constant_sym c ∷ [] ≡ map constant_sym (ns ++ c ∷ [])
 map-more [] c = refl
@@ -39,7 +31,7 @@ map-more (n ∷ ns) c = ap (λ l. constant_sym n ∷ l) (map-more ns c)
 
 pub symbols-statement : (hs : List ℕ) (c : ℕ) → symbols (statement hs c) [] ≡ map constant_sym (hs ++ c ∷ [])
 symbols-statement [] c = refl
-symbols-statement (h ∷ hs) c = symbols-conjoined (constant h) hs (constant_sym c ∷ []) ∙ ap (λ l. constant_sym h ∷ l) (map-more hs c)
+symbols-statement (h ∷ hs) c = symbols-conjunction (constant h) hs (constant_sym c ∷ []) ∙ ap (λ l. constant_sym h ∷ l) (map-more hs c)
 
 pub eq_swap : (a b : ℕ) → nat_eq a b ≡ nat_eq b a
 eq_swap a b = grind (arith, nat_tests)
@@ -143,7 +135,7 @@ renumber-constant : (order : List ℕ) (n i : ℕ) → Distinct order → slice_
 renumber-constant order n i d e =
     ap (λ (o : Option ℕ). apply_body (numbered (constant_sym n) o) (constant_sym n) end) (place-at 0 order i n d e ∙ ap (λ (x : ℕ). Some x) (zero-add i))
 
-sub-conjoined : (s : Sym → Option Tree) (t : Tree) (us : List Tree) → sub s (conjoined t us) ≡ conjoined (sub s t) (map (sub s) us)
+sub-conjoined : (s : Sym → Option Tree) (t : Tree) (us : List Tree) → sub s (conjunction t us) ≡ conjunction (sub s t) (map (sub s) us)
 sub-conjoined s t [] = refl
 sub-conjoined s t (u ∷ us) = sub-conjoined s (and_ t u) us
 

@@ -5,6 +5,7 @@ use Rattle.core_expr.specs.declared.head.SymKind.TheVariants.{Constant}
 use Rattle.core_expr.specs.Tree.{Tree, and_, imp_}
 use Rattle.core_expr.specs.Tree.Tree.{app}
 use Rattle.core_expr.specs.Tree.Parts.{end}
+use Rattle.core_expr.specs.Nodes.{canon_sym}
 use Rattle.seq_calculus.specs.Schemas.{join_from}
 use Rattle.tableau_definition.specs.Search.{End, search}
 use Rattle.proof_manager.specs.Canonical.{canonical, symbol_order}
@@ -17,10 +18,18 @@ constant_sym n = record { kind = Constant; number = n; arity = 0 }
 abbrev pub leaf : Sym → Tree
 leaf s = app s end
 
+-- a formula and more, joined by /\ and nested to the left
+abbrev pub conjunction : Tree → List Tree → Tree
+conjunction t us = join_from (λ a b. and_ a b) t us
+
+-- the canonical symbol with a number, as a formula
+abbrev pub numeral : ℕ → Tree
+numeral n = leaf (canon_sym n 0)
+
 -- the hypotheses joined by /\, nested to the left, imply the conclusion; the conclusion alone where there are none
 abbrev pub implication : List Tree → Tree → Tree
 implication [] c = c
-implication (h ∷ hs) c = imp_ (join_from (λ a b. and_ a b) h hs) c
+implication (h ∷ hs) c = imp_ (conjunction h hs) c
 
 -- the statement over the constants at these places; it has no definitions, so it is its own full expansion
 abbrev pub statement : List ℕ → ℕ → Tree

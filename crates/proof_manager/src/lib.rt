@@ -1,6 +1,7 @@
 //! The top call: from the words of the command and the modules to the report.
 #![tactic(auto)]
 
+mod goal;
 mod numbering;
 mod status;
 
