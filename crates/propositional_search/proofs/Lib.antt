@@ -6,3 +6,4 @@ pub mod RunLaws
 pub mod RuleLaws
 pub mod Marks
 pub mod ValueLaws
+pub mod CloseLaws
