@@ -38,20 +38,20 @@ On-push (x ∷ xs) f g o = elim o [ inl e ↦ inl (inl e) | inr k ↦ elim (On-p
 
 has-on : (b : Branch) (f : Tree) → has b f ≡ true → On (formulas b) f
 has-on [] f h = cc
-has-on (e ∷ b) f h = go (same e.formula f) refl h
+has-on (e ∷ b) f h = go (has-on b f) (same e.formula f) refl h
   where
-    go : (x : Bool) → same e.formula f ≡ x → elim x [ true ↦ true | false ↦ has b f ] ≡ true → On (formulas (e ∷ b)) f
-    go true q k = inl (same-true e.formula f q)
-    go false q k = inr (has-on b f k)
+    go : (has b f ≡ true → On (formulas b) f) → (x : Bool) → same e.formula f ≡ x → elim x [ true ↦ true | false ↦ has b f ] ≡ true → On (formulas (e ∷ b)) f
+    go ih true q k = inl (same-true e.formula f q)
+    go ih false q k = inr (ih k)
 
 on-has : (b : Branch) (f : Tree) → On (formulas b) f → has b f ≡ true
 on-has [] f o = absurd o
-on-has (e ∷ b) f o = go (same e.formula f) refl o
+on-has (e ∷ b) f o = go (on-has b f) (same e.formula f) refl o
   where
-    go : (x : Bool) → same e.formula f ≡ x → On (formulas (e ∷ b)) f → elim x [ true ↦ true | false ↦ has b f ] ≡ true
-    go true q k = refl
-    go false q (inl k) = let s : same e.formula f ≡ true = subst (λ t. same e.formula t ≡ true) k (same-self e.formula) in cc
-    go false q (inr k) = on-has b f k
+    go : (On (formulas b) f → has b f ≡ true) → (x : Bool) → same e.formula f ≡ x → On (formulas (e ∷ b)) f → elim x [ true ↦ true | false ↦ has b f ] ≡ true
+    go ih true q k = refl
+    go ih false q (inl k) = let s : same e.formula f ≡ true = subst (λ t. same e.formula t ≡ true) k (same-self e.formula) in cc
+    go ih false q (inr k) = ih k
 
 -- f is the Not of g
 not-of : (f g : Tree) → is_not_of f g ≡ true → f ≡ not_ g
@@ -69,27 +69,30 @@ not-own f = go (is_not_of f f) refl
 abbrev Apart : Tree → Tree → Type 0
 Apart f g = (is_not_of f g ≡ false) × (is_not_of g f ≡ false)
 
+abbrev or_closing : Option Closing → Option Closing → Option Closing
+or_closing y z = elim y [ None ↦ z | Some c ↦ Some c ]
+
+abbrev pair_closing : Bool → Bool → Tree → Tree → Option Closing
+pair_closing x y f g = elim x [ true ↦ Some (record { kind = 2; entries = f ∷ g ∷ [] }) | false ↦ elim y [ true ↦ Some (record { kind = 2; entries = f ∷ g ∷ [] }) | false ↦ None ] ]
+
 by_partner : (f g : Tree) → partner 2 is_not_of f g ≡ None → Apart f g
 by_partner f g e = go (is_not_of f g) (is_not_of g f) refl refl e
   where
-    c : Closing
-    c = record { kind = 2; entries = f ∷ g ∷ [] }
-
-    go : (x y : Bool) → is_not_of f g ≡ x → is_not_of g f ≡ y → elim x [ true ↦ Some (record { kind = 2; entries = f ∷ g ∷ [] }) | false ↦ elim y [ true ↦ Some (record { kind = 2; entries = f ∷ g ∷ [] }) | false ↦ None ] ] ≡ None → Apart f g
+    go : (x y : Bool) → is_not_of f g ≡ x → is_not_of g f ≡ y → pair_closing x y f g ≡ None → Apart f g
     go true y p q r = cc
     go false true p q r = cc
     go false false p q r = (p, q)
 
 no_partner : (f g : Tree) → Apart f g → partner 2 is_not_of f g ≡ None
-no_partner f g a = λ i. elim (a.0 i) [ true ↦ Some (record { kind = 2; entries = f ∷ g ∷ [] }) | false ↦ elim (a.1 i) [ true ↦ Some (record { kind = 2; entries = f ∷ g ∷ [] }) | false ↦ None ] ]
+no_partner f g a = λ i. pair_closing (a.0 i) (a.1 i) f g
 
 by_partners : (f : Tree) (older : List Tree) → first_some (partner 2 is_not_of f) older ≡ None → (g : Tree) → On older g → Apart f g
 by_partners f [] e g o = absurd o
-by_partners f (x ∷ older) e g o = go (partner 2 is_not_of f x) refl e
+by_partners f (x ∷ older) e g o = go (λ q k. by_partners f older q g k) (partner 2 is_not_of f x) refl e
   where
-    go : (y : Option Closing) → partner 2 is_not_of f x ≡ y → elim y [ None ↦ first_some (partner 2 is_not_of f) older | Some c ↦ Some c ] ≡ None → Apart f g
-    go None p q = elim o [ inl k ↦ subst (λ t. Apart f t) k (by_partner f x p) | inr k ↦ by_partners f older q g k ]
-    go (Some c) p q = cc
+    go : (first_some (partner 2 is_not_of f) older ≡ None → On older g → Apart f g) → (y : Option Closing) → partner 2 is_not_of f x ≡ y → or_closing y (first_some (partner 2 is_not_of f) older) ≡ None → Apart f g
+    go ih None p q = elim o [ inl k ↦ subst (λ t. Apart f t) k (by_partner f x p) | inr k ↦ ih q k ]
+    go ih (Some c) p q = cc
 
 no_partners : (f : Tree) (older : List Tree) → ((g : Tree) → On older g → Apart f g) → first_some (partner 2 is_not_of f) older ≡ None
 no_partners f [] h = refl
@@ -97,10 +100,13 @@ no_partners f (x ∷ older) h =
     ap (λ y. elim y [ None ↦ first_some (partner 2 is_not_of f) older | Some c ↦ Some c ]) (no_partner f x (h x (inl refl)))
     ∙ no_partners f older (λ g o. h g (inr o))
 
+abbrev closing_by : Option ℕ → List Tree → Tree → Option Closing
+closing_by y older f = elim (alone f y) [ Some c ↦ Some c | None ↦ first_some (partner 2 is_not_of f) older ]
+
 by_closes : (older : List Tree) (f : Tree) → connective_closes older f ≡ None → (shuts_first f ≡ None) × ((g : Tree) → On older g → Apart f g)
 by_closes older f e = go (shuts_first f) refl e
   where
-    go : (y : Option ℕ) → shuts_first f ≡ y → elim (alone f y) [ Some c ↦ Some c | None ↦ first_some (partner 2 is_not_of f) older ] ≡ None → (shuts_first f ≡ None) × ((g : Tree) → On older g → Apart f g)
+    go : (y : Option ℕ) → shuts_first f ≡ y → closing_by y older f ≡ None → (shuts_first f ≡ None) × ((g : Tree) → On older g → Apart f g)
     go None p q = (p, by_partners f older q)
     go (Some k) p q = cc
 
@@ -131,13 +137,13 @@ record Calm (older fs : List Tree) (f : Tree) : Type 0 where
 
 calm : (older fs : List Tree) → connective_closing_from older fs ≡ None → (f : Tree) → On fs f → Calm older fs f
 calm older [] e f o = absurd o
-calm older (x ∷ xs) e f o = go (connective_closes older x) refl e
+calm older (x ∷ xs) e f o = go (calm (older ++ x ∷ []) xs) (connective_closes older x) refl e
   where
-    go : (y : Option Closing) → connective_closes older x ≡ y → elim y [ Some c ↦ Some c | None ↦ connective_closing_from (older ++ x ∷ []) xs ] ≡ None → Calm older (x ∷ xs) f
-    go (Some c) p q = cc
-    go None p q =
+    go : (connective_closing_from (older ++ x ∷ []) xs ≡ None → (g : Tree) → On xs g → Calm (older ++ x ∷ []) xs g) → (y : Option Closing) → connective_closes older x ≡ y → or_closing y (connective_closing_from (older ++ x ∷ []) xs) ≡ None → Calm older (x ∷ xs) f
+    go more (Some c) p q = cc
+    go more None p q =
         let h = by_closes older x p in
-        let ih = calm (older ++ x ∷ []) xs q in
+        let ih = more q in
         elim o [
           | inl k ↦ subst (λ t. Calm older (x ∷ xs) t) k
               (record {
@@ -227,17 +233,17 @@ module _ (ns : List Node) (ps : List ℕ) (r : IsReady ns ps) (es : List Entry) 
   entries_quiet [] [] k e f o = absurd o
   entries_quiet [] (d ∷ c) k e f o = absurd k
   entries_quiet (x ∷ xs) [] k e f o = absurd k
-  entries_quiet (x ∷ xs) (d ∷ c) k e f o = go (shuts ns (stands_in (length ns) es) (node_at ns x.formula)) refl e
+  entries_quiet (x ∷ xs) (d ∷ c) k e f o = go (λ q m. entries_quiet xs c k.3 q f m) (shuts ns (stands_in (length ns) es) (node_at ns x.formula)) refl e
     where
       l : x.formula < length ns
       l = omega (arith, count ns ps r, k.2)
 
-      go : (y : Bool) → shuts ns (stands_in (length ns) es) (node_at ns x.formula) ≡ y → elim y [ true ↦ true | false ↦ closes ns (stands_in (length ns) es) xs ] ≡ false → Quiet (formulas b) f
-      go true p q = cc
-      go false p q =
+      go : (closes ns (stands_in (length ns) es) xs ≡ false → On (formulas c) f → Quiet (formulas b) f) → (y : Bool) → shuts ns (stands_in (length ns) es) (node_at ns x.formula) ≡ y → elim y [ true ↦ true | false ↦ closes ns (stands_in (length ns) es) xs ] ≡ false → Quiet (formulas b) f
+      go ih true p q = cc
+      go ih false p q =
           elim o [
             | inl m ↦ subst (λ t. Quiet (formulas b) t) (sym (tree_node ns ps r x.formula l) ∙ k.0 ∙ m) (quiet_node (node_at ns x.formula) (below ns ps r x.formula l) p)
-            | inr m ↦ entries_quiet xs c k.3 q f m
+            | inr m ↦ ih q m
           ]
 
   quiet_entries : (xs : List Entry) (c : Branch) → Shows (trees_of ns) xs c → ((f : Tree) → On (formulas c) f → Quiet (formulas b) f) → closes ns (stands_in (length ns) es) xs ≡ false

@@ -7,3 +7,5 @@ pub mod RuleLaws
 pub mod Marks
 pub mod ValueLaws
 pub mod CloseLaws
+pub mod TurnLaws
+pub mod SearchLaws

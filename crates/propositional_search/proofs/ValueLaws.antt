@@ -85,7 +85,7 @@ truth-true b = go (has b true_)
     go false = refl
 
 -- the values of the places below n
-abbrev Valued_below : ℕ → List Tree → Branch → List Truth → Type 0
+abbrev pub Valued_below : ℕ → List Tree → Branch → List Truth → Type 0
 Valued_below n ts b vs = (i : ℕ) → i < n → meant (truth_at vs i) ≡ (connective_value b (tree_of ts i)).truth
 
 by_case : (ts : List Tree) (b : Branch) (vs : List Truth) (n : ℕ) (m : Node) → Valued_below n ts b vs → Below n m → meant (value_at (has b (tree_in ts m)) (has b (not_ (tree_in ts m))) vs m) ≡ (connective_value b (tree_in ts m)).truth

@@ -24,7 +24,7 @@ pub enum Answer {
 }
 
 #[derive(Debug, Drop)]
-enum Ending {
+pub enum Ending {
     Closed(u64),
     Saturated(Items<Entry>, u64),
     Spent(u64),
