@@ -66,10 +66,13 @@ add_all-last : (b : Branch) (fs : List Tree) (f : Tree) → add_all [] b (fs ++ 
 add_all-last b [] f = refl
 add_all-last b (x ∷ fs) f = add_all-last (add [] b x) fs f
 
+abbrev tested : Bool → Bool → Bool
+tested x y = elim x [ true ↦ y | false ↦ false ]
+
 symbol_same : (ts : List Tree) (m : Node) (i : ℕ) → same (tree_in ts m) (symbol_ i) ≡ is_symbol m i
 symbol_same ts (Symbol s) i = go (nat_eq s i)
   where
-    go : (x : Bool) → elim (elim x [ true ↦ true | false ↦ false ]) [ true ↦ true | false ↦ false ] ≡ x
+    go : (x : Bool) → tested (tested x true) true ≡ x
     go true = refl
     go false = refl
 symbol_same ts _ i = refl
@@ -118,7 +121,7 @@ module _ (ns : List Node) (ps : List ℕ) (r : IsReady ns ps) where
 
   facts-shown : (facts : List ℕ) (es : List Entry) (b : Branch) → All (λ i. i < length ts) facts → Shows ts es b → Shows ts (fold with_place es facts) (add_all [] b (map (tree_of ts) facts))
   facts-shown [] es b h s = s
-  facts-shown (f ∷ fs) es b h s = facts-shown fs (with_place es f) (add [] b (tree_of ts f)) h.1 (add-shown ts es b f [] (bank_of ns r.arena).distinct h.0 s)
+  facts-shown (f ∷ fs) es b h s = facts-shown fs (with_place es f) (add [] b (tree_of ts f)) (λ k d q. h (suc k) d (omega arith)) (add-shown ts es b f [] (bank_of ns r.arena).distinct (h 0 0 (omega arith)) s)
 
   pub start-shown : (facts : List ℕ) (goal : ℕ) → All (λ i. i < length ts) facts → goal < length ps → AllShow ts (start_at ps facts goal ∷ []) (start (map (tree_of ts) facts) (tree_of ts goal))
   unfolding start_at
