@@ -9,3 +9,4 @@ pub mod ValueLaws
 pub mod CloseLaws
 pub mod TurnLaws
 pub mod SearchLaws
+pub mod Prepared

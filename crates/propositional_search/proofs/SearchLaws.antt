@@ -23,10 +23,11 @@ use Rattle.propositional_search.specs.declared.choose.Decision.{Decision}
 use Rattle.propositional_search.specs.declared.choose.Decision.TheVariants.{Closes, Stuck, Alone, Splits}
 use Rattle.propositional_search.specs.declared.search.Ending.{Ending}
 use Rattle.propositional_search.specs.declared.search.Ending.TheVariants.{Closed, Saturated, Spent}
-use Rattle.propositional_search.specs.Nodes.{tree_of, tree_in, trees_of, tree_at, Below, symbol_}
+use Rattle.propositional_search.specs.Nodes.{tree_of, tree_in, trees_of, tree_at, Below, symbol_, Extends}
 use Rattle.propositional_search.specs.Steps.{node_at, place_at, flag_at, with_place, result_of, decided, next_branches, is_stuck, run_at, start_at, values_of}
 use Rattle.propositional_search.specs.Ready.{IsReady}
-use Rattle.propositional_search.specs.Answers.{valuation_from, valuation}
+use Rattle.propositional_search.specs.Answers.{valuation_from, valuation, Answers, answer_of}
+use Rattle.propositional_search.proofs.NodeLaws.{length-trees_of}
 use Rattle.propositional_search.proofs.Shows.{Shows, add-shown, result-shown}
 use Rattle.propositional_search.proofs.Marks.{is_symbol, length-values_of, values-marked}
 use Rattle.propositional_search.proofs.RuleLaws.{bank_of, count, tree_node, below, side_of}
@@ -203,3 +204,39 @@ module _ (ns : List Node) (ps : List ℕ) (r : IsReady ns ps) where
     search_so symbols facts goal n e h l =
         subst (λ v. EndsAs ts (run_at ns ps n 0 (start_at ps facts goal ∷ [])) (run false v n 0 (start (map (tree_of ts) facts) (tree_of ts goal)))) e
         (run_so n 0 (start_at ps facts goal ∷ []) (start (map (tree_of ts) facts) (tree_of ts goal)) (start-shown facts goal h l))
+
+-- the answer tells the end
+pub answer_so : (ns : List Node) (ps : List ℕ) (r : IsReady ns ps) (n : ℕ) (e : Ending) (t : End) → EndsAs (trees_of ns) e t → Answers n (answer_of ns n e) t
+answer_so ns ps r n (Closed k) (AllClosed m) h = h
+answer_so ns ps r n (Closed k) (Stays b m) h = absurd h
+answer_so ns ps r n (Closed k) (Cut m) h = absurd h
+answer_so ns ps r n (Saturated es k) (AllClosed m) h = absurd h
+answer_so ns ps r n (Saturated es k) (Stays b m) h = (values-are ns ps r n es b h.0, h.1)
+answer_so ns ps r n (Saturated es k) (Cut m) h = absurd h
+answer_so ns ps r n (Spent k) (AllClosed m) h = absurd h
+answer_so ns ps r n (Spent k) (Stays b m) h = absurd h
+answer_so ns ps r n (Spent k) (Cut m) h = h
+
+same_trees : (old ns : List Node) → Extends old ns → (facts : List ℕ) → All (λ i. i < length old) facts → map (tree_at ns) facts ≡ map (tree_at old) facts
+unfolding Extends
+same_trees old ns x [] h = refl
+same_trees old ns x (f ∷ fs) h = λ i. (x f (h 0 0 (omega arith))).1 i ∷ same_trees old ns x fs (λ k d q. h (suc k) d (omega arith)) i
+
+all_within : (old ns : List Node) → Extends old ns → (facts : List ℕ) → All (λ i. i < length old) facts → All (λ i. i < length (trees_of ns)) facts
+unfolding Extends
+all_within old ns x facts h k d q = let l : get_or facts k d < length ns = (x (get_or facts k d) (h k d q)).0 in omega (arith, length-trees_of ns)
+
+-- the answer, from the formulas as they were
+pub answers_so : OnlyConnectiveRules → OnlyConnectiveClosings → (old ns : List Node) (ps : List ℕ) (facts : List ℕ) (goal symbols turns : ℕ)
+    → IsReady ns ps
+    → Extends old ns
+    → length ps ≡ length old
+    → All (λ i. i < length old) facts
+    → goal < length old
+    → Answers symbols (answer_of ns symbols (run_at ns ps turns 0 (start_at ps facts goal ∷ []))) (search false symbols (map (tree_at old) facts) (tree_at old goal) turns)
+unfolding Extends
+answers_so rules closings old ns ps facts goal symbols turns r x c h l =
+    subst (λ fs. Answers symbols (answer_of ns symbols (run_at ns ps turns 0 (start_at ps facts goal ∷ []))) (search false symbols fs (tree_at old goal) turns)) (same_trees old ns x facts h)
+    (subst (λ t. Answers symbols (answer_of ns symbols (run_at ns ps turns 0 (start_at ps facts goal ∷ []))) (search false symbols (map (tree_at ns) facts) t turns)) (x goal l).1
+    (answer_so ns ps r symbols (run_at ns ps turns 0 (start_at ps facts goal ∷ [])) (search false symbols (map (tree_at ns) facts) (tree_at ns goal) turns)
+    (search_so ns ps r rules closings (spare symbols) symbols facts goal turns refl (all_within old ns x facts h) (omega (arith, c)))))

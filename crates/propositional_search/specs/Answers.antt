@@ -4,6 +4,10 @@ use Rattle.tableau_definition.specs.Branches.{Branch, has}
 use Rattle.tableau_definition.specs.Search.{End}
 use Rattle.tableau_definition.specs.Search.End.{Closed, Saturated as Open, Spent as Cut}
 use Rattle.propositional_search.specs.Nodes.{symbol_}
+use Rattle.propositional_search.specs.Steps.{values_of}
+use Rattle.propositional_search.specs.declared.node.Node.{Node}
+use Rattle.propositional_search.specs.declared.search.Ending.{Ending}
+use Rattle.propositional_search.specs.declared.search.Ending.TheVariants.{Closed as Ended, Saturated as Left, Spent as Used}
 use Rattle.propositional_search.specs.declared.search.Answer.{Answer}
 use Rattle.propositional_search.specs.declared.search.Answer.TheVariants.{Proved, Saturated, Spent}
 
@@ -22,3 +26,9 @@ Answers n (Proved k) (Closed m) = k ≡ m
 Answers n (Saturated values k) (Open b m) = (values ≡ valuation n b) × (k ≡ m)
 Answers n (Spent k) (Cut m) = k ≡ m
 Answers n _ _ = ⊥
+
+-- the answer of an ending
+abbrev pub answer_of : List Node → ℕ → Ending → Answer
+answer_of ns n (Ended k) = Proved k
+answer_of ns n (Left es k) = Saturated (values_of ns n es) k
+answer_of ns n (Used k) = Spent k
