@@ -6,3 +6,7 @@ pub mod RunLaws
 pub mod RuleLaws
 pub mod Marks
 pub mod ValueLaws
+pub mod CloseLaws
+pub mod TurnLaws
+pub mod SearchLaws
+pub mod Prepared

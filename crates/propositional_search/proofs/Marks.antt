@@ -1,5 +1,8 @@
 -- What is marked.
 use Rattle.std.proofs.Common.{◌≡◌, ℕ, zero, suc, ◌+◌, ◌<◌, ◌≤◌, Bool, true, false, ◌||◌, List, [], ◌∷◌, ◌++◌, length, get_or, refl, ap, sym, ◌∙◌, arith, rules, subst, nat_eq}
+use Rattle.std.proofs.Common.{get_or-set_same, get_or-set_other, ◌≢◌}
+use Rattle.core_expr.proofs.Equal.{nat-same}
+use Rattle.tableau_definition.proofs.Used.{nat_self}
 use Rattle.std.specs.Prelude.{replicate, slice_set}
 use Rattle.std.specs.List.{list_any, fold}
 use Rattle.std.proofs.lemmas.Bool.Decides.{nat_tests}
@@ -9,11 +12,14 @@ use Rattle.propositional_search.specs.declared.branch.Entry.{Entry}
 use Rattle.propositional_search.specs.Steps.{has_place, node_at, flag_at, mark_entry, mark_part, mark_symbol, stands_in, denied_in, values_of}
 
 at_mark : (fs : List Bool) (j i : ℕ) → i < length fs → get_or (slice_set fs j true) i false ≡ (nat_eq j i || get_or fs i false)
-at_mark [] j i h = absurd (omega arith)
-at_mark (f ∷ fs) zero zero h = refl
-at_mark (f ∷ fs) zero (suc i) h = refl
-at_mark (f ∷ fs) (suc j) zero h = refl
-at_mark (f ∷ fs) (suc j) (suc i) h = at_mark fs j i (omega arith)
+at_mark fs j i h = go (nat_eq j i) refl
+  where
+    apart : nat_eq j j ≡ false → ⊥
+    apart e = let s : nat_eq j j ≡ true = nat_self j in cc
+
+    go : (x : Bool) → nat_eq j i ≡ x → get_or (slice_set fs j true) i false ≡ (x || get_or fs i false)
+    go true e = let k : j ≡ i = nat-same j i e in rw k (get_or-set_same fs i true false h)
+    go false e = let k : i ≢ j = λ q. apart (subst (λ n. nat_eq j n ≡ false) q e) in get_or-set_other fs j i true false k
 
 length-mark : (fs : List Bool) (j : ℕ) → length (slice_set fs j true) ≡ length fs
 length-mark [] j = refl

@@ -63,10 +63,16 @@ meant-unless true y v = refl
 meant-unless false true v = refl
 meant-unless false false v = refl
 
+abbrev chosen : Bool → Bool → Tree → Valued → Valued
+chosen x y f v = elim x [ true ↦ yes_by (f ∷ []) | false ↦ elim y [ true ↦ no_by (not_ f ∷ []) | false ↦ v ] ]
+
+abbrev surely : Bool → Valued
+surely x = elim x [ true ↦ yes_by (true_ ∷ []) | false ↦ yes_by [] ]
+
 truth-on : (b : Branch) (f : Tree) (v : Valued) → (on_branch b f v).truth ≡ picked (has b f) (has b (not_ f)) v.truth
 truth-on b f v = go (has b f) (has b (not_ f))
   where
-    go : (x y : Bool) → (elim x [ true ↦ yes_by (f ∷ []) | false ↦ elim y [ true ↦ no_by (not_ f ∷ []) | false ↦ v ] ]).truth ≡ picked x y v.truth
+    go : (x y : Bool) → (chosen x y f v).truth ≡ picked x y v.truth
     go true y = refl
     go false true = refl
     go false false = refl
@@ -74,12 +80,12 @@ truth-on b f v = go (has b f) (has b (not_ f))
 truth-true : (b : Branch) → (connective_value b true_).truth ≡ TrulyYes
 truth-true b = go (has b true_)
   where
-    go : (x : Bool) → (elim x [ true ↦ yes_by (true_ ∷ []) | false ↦ yes_by [] ]).truth ≡ TrulyYes
+    go : (x : Bool) → (surely x).truth ≡ TrulyYes
     go true = refl
     go false = refl
 
 -- the values of the places below n
-abbrev Valued_below : ℕ → List Tree → Branch → List Truth → Type 0
+abbrev pub Valued_below : ℕ → List Tree → Branch → List Truth → Type 0
 Valued_below n ts b vs = (i : ℕ) → i < n → meant (truth_at vs i) ≡ (connective_value b (tree_of ts i)).truth
 
 by_case : (ts : List Tree) (b : Branch) (vs : List Truth) (n : ℕ) (m : Node) → Valued_below n ts b vs → Below n m → meant (value_at (has b (tree_in ts m)) (has b (not_ (tree_in ts m))) vs m) ≡ (connective_value b (tree_in ts m)).truth

@@ -1,10 +1,10 @@
 -- What the search asks of its nodes and of the places of their negations.
-use Rattle.std.specs.Prelude.{◌≡◌, ℕ, ◌<◌, List, length}
+use Rattle.std.specs.Prelude.{◌≡◌, ℕ, ◌<◌, ◌≤◌, List, length}
 use Rattle.std.proofs.Common.{get_or}
 use Rattle.core_expr.specs.Tree.{not_}
 use Rattle.propositional_search.specs.declared.node.Node.{Node}
 use Rattle.propositional_search.specs.declared.node.Node.TheVariants.{True, False, Symbol, Not, And, Or, Implies, Iff}
-use Rattle.propositional_search.specs.Nodes.{tree_at, IsArena}
+use Rattle.propositional_search.specs.Nodes.{tree_at, IsArena, Extends}
 use Rattle.propositional_search.specs.Steps.{node_at, place_at}
 
 -- the parts of a node with two parts are below n
@@ -25,3 +25,11 @@ pub record IsReady (ns : List Node) (ps : List ℕ) : Type 0 where
   pub arena : IsArena ns
   pub negations : (i : ℕ) → i < length ps → IsNegation ns i (place_at ps i)
   pub small : (k : ℕ) → k < length ns → Small (length ps) (node_at ns k)
+
+-- the first so many of the formulas have the places of their negations
+pub record IsPrepared (start ns : List Node) (ps : List ℕ) (count place : ℕ) : Type 0 where
+  pub counted : length ps ≡ place
+  pub negations : (i : ℕ) → i < place → IsNegation ns i (place_at ps i)
+  pub extends : Extends start ns
+  pub small : (k : ℕ) → k < length ns → Small count (node_at ns k)
+  pub room : count ≤ length ns

@@ -69,7 +69,11 @@ fn retire(branch: &mut Items<Entry>, at: usize)
 }
 
 /// The branch after a rule used an entry and added formulas.
-pub fn result_of(mut branch: Items<Entry>, at: usize, added: Added) -> Result<Items<Entry>, AllocError>
+pub fn result_of(
+    mut branch: Items<Entry>,
+    at: usize,
+    added: Added,
+) -> Result<Items<Entry>, AllocError>
     ensures { IfOk result (λ b. b ≡ result_of branch at added) }
 {
     retire(&mut branch, at);

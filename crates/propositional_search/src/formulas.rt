@@ -1,6 +1,7 @@
 ghost use Rattle.std.specs.Prelude.{◌≡◌, ◌<◌, [], length, IfOk, OnErr};
 ghost use Rattle.core_expr.specs.Tree.{true_, false_, not_, and_, or_, imp_, iff_};
-ghost use Rattle.propositional_search.specs.Nodes.{Below, Extends, Adds, Grows, tree_at, tree_in, trees_of, symbol_};
+ghost use Rattle.propositional_search.specs.Nodes.{Below, Extends, Adds, Grows, IsArena, tree_at, tree_in, trees_of, symbol_};
+ghost use Rattle.propositional_search.specs.Ready.{IsReady, IsPrepared};
 
 use crate::node::Node;
 use core_expr::Memory;
@@ -35,6 +36,14 @@ impl Formulas {
         Formulas {
             nodes: IndexSet::new(alloc),
         }
+    }
+
+    /// The number of formulas.
+    pub fn len(&self) -> usize
+        ensures count { result ≡ length self.now }
+        ensures arena { IsArena self.now }
+    {
+        self.nodes.len()
     }
 
     /// The place of the node, which is new or was there.
@@ -120,4 +129,42 @@ impl Formulas {
     {
         Ok(self.intern(Node::Iff(left, right))?)
     }
+}
+
+/// Nodes, and the place of the negation of each that was there at first.
+#[derive(Debug, Drop)]
+pub struct Prepared {
+    pub nodes: Vec<Node>,
+    pub negations: Vec<usize>,
+}
+
+/// Adds the negation of each formula.
+fn add_negations(alloc: Global, formulas: &mut Formulas) -> Result<Vec<usize>, AllocError>
+    ensures { IfOk result (λ v. IsPrepared formulas.old formulas.new v.items (length formulas.old) (length formulas.old)) }
+{
+    let count = formulas.len();
+    let mut negations = Vec::new(alloc);
+    for place in 0..count {
+        let negation = formulas.intern(Node::Not(place))?;
+        negations.push(negation)?;
+    }
+    Ok(negations)
+}
+
+fn nodes_of(alloc: Global, formulas: &Formulas) -> Result<Vec<Node>, AllocError>
+    ensures nodes { IfOk result (λ v. v.items ≡ formulas.now) }
+    ensures arena { IsArena formulas.now }
+{
+    Vec::from_slice(alloc, formulas.nodes.as_slice())
+}
+
+/// The nodes of the formulas and of their negations.
+pub fn prepare(alloc: Global, mut formulas: Formulas) -> Result<Prepared, AllocError>
+    ensures ready { IfOk result (λ p. IsReady p.nodes.items p.negations.items) }
+    ensures extends { IfOk result (λ p. Extends formulas p.nodes.items) }
+    ensures count { IfOk result (λ p. length p.negations.items ≡ length formulas) }
+{
+    let negations = add_negations(alloc, &mut formulas)?;
+    let nodes = nodes_of(alloc, &formulas)?;
+    Ok(Prepared { nodes, negations })
 }

@@ -13,3 +13,4 @@ mod values;
 
 pub use formulas::Formulas;
 pub use node::Node;
+pub use search::{Answer, decide};

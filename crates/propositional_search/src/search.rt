@@ -1,15 +1,20 @@
-ghost use Rattle.std.specs.Prelude.{◌≡◌, ◌∷◌, [], IfOk, OnOk};
+ghost use Rattle.std.specs.Prelude.{◌≡◌, ◌<◌, ◌∷◌, [], length, map, false, IfOk, OnOk};
+ghost use Rattle.std.specs.List.{All};
+ghost use Rattle.tableau_definition.specs.Search.{search};
+ghost use Rattle.propositional_search.specs.Nodes.{tree_at};
+ghost use Rattle.propositional_search.specs.Answers.{Answers, answer_of};
 ghost use Rattle.propositional_search.specs.Steps.{with_place, advanced, start_at, run_at, mark_symbol, values_of};
 
 use crate::branch::{Added, Entry, add, result_of};
 use crate::choose::{Decision, decided};
-use crate::formulas::Formulas;
+use crate::formulas::{Formulas, prepare};
 use crate::node::Node;
 use crate::rules::{node_at, place_at};
 use crate::values::mark;
 use core_expr::Memory;
 use sqlite_items::Items;
 use std::alloc::{AllocError, Global};
+use tableau_definition::{only_connective_closings, only_connective_rules};
 
 /// How the search ends.
 #[derive(Debug, Drop)]
@@ -24,7 +29,7 @@ pub enum Answer {
 }
 
 #[derive(Debug, Drop)]
-enum Ending {
+pub enum Ending {
     Closed(u64),
     Saturated(Items<Entry>, u64),
     Spent(u64),
@@ -119,4 +124,45 @@ fn values_of(
         mark_symbol(&mut values, node_at(nodes, entry.formula));
     }
     Ok(Items::from_vec(values))
+}
+
+/// The answer of an ending.
+fn answer_of(
+    alloc: Global,
+    nodes: &[Node],
+    symbols: usize,
+    ending: Ending,
+) -> Result<Answer, AllocError>
+    ensures { IfOk result (λ a. a ≡ answer_of nodes.now symbols ending) }
+{
+    match ending {
+        Ending::Closed(turns) => Ok(Answer::Proved { turns }),
+        Ending::Saturated(branch, turns) => {
+            let values = values_of(alloc, nodes, symbols, branch.as_slice())?;
+            Ok(Answer::Saturated { values, turns })
+        }
+        Ending::Spent(turns) => Ok(Answer::Spent { turns }),
+    }
+}
+
+/// The end of the written search, in its first edition, for the goal under the facts, with at most `turns` turns. The
+/// values are those of the symbols with the numbers below `symbols`, in order.
+pub fn decide(
+    alloc: Global,
+    formulas: Formulas,
+    facts: &[usize],
+    goal: usize,
+    symbols: usize,
+    turns: u64,
+) -> Result<Answer, Memory>
+    requires facts { All (λ i. i < length formulas) facts.now }
+    requires goal { goal < length formulas }
+    ensures { IfOk result (λ a. Answers symbols a (search false symbols (map (tree_at formulas) facts.now) (tree_at formulas goal) turns)) }
+{
+    only_connective_rules();
+    only_connective_closings();
+    let prepared = prepare(alloc, formulas)?;
+    let start = start_of(alloc, &prepared.negations, facts, goal)?;
+    let ending = run(alloc, &prepared.nodes, &prepared.negations, start, turns)?;
+    Ok(answer_of(alloc, &prepared.nodes, symbols, ending)?)
 }
