@@ -4,3 +4,4 @@ pub mod Formed
 pub mod FlatLaws
 pub mod SpanLaws
 pub mod BuildLaws
+pub mod PlaceLaws

@@ -6,4 +6,5 @@ pub mod Nodes
 pub mod Flat
 pub mod Rows
 pub mod Spans
+pub mod Places
 pub mod Coding
