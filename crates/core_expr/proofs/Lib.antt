@@ -5,3 +5,4 @@ pub mod FlatLaws
 pub mod SpanLaws
 pub mod BuildLaws
 pub mod PlaceLaws
+pub mod Fed

@@ -144,6 +144,13 @@ impl Expr {
         &self.rows.as_slice()[i as usize]
     }
 
+    /// The nodes.
+    pub(crate) fn rows(&self) -> &[Row]
+        ensures { result.now ≡ rows_of self.now }
+    {
+        self.rows.as_slice()
+    }
+
     /// The number of nodes.
     pub fn length(&self) -> u64
         ensures value { result ≡ length (rows_of self.now) }

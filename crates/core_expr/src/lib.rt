@@ -4,6 +4,8 @@
 //! with their laws, and texts.
 #![tactic(auto)]
 
+mod canon;
+mod compare;
 mod expr;
 mod forest;
 mod head;
@@ -14,6 +16,7 @@ mod rows;
 mod spans;
 mod text;
 
+pub use canon::Canon;
 pub use expr::Expr;
 pub use head::{Binder, Head, Sym, SymKind};
 pub use memory::Memory;
