@@ -2,8 +2,8 @@
 use Rattle.std.proofs.Common.{◌≡◌, ℕ, zero, suc, ◌+◌, ◌-◌, ◌≤◌, ◌<◌, Bool, true, false, List, [], ◌∷◌, ◌++◌, length, drop, Option, Some, None, Result, Ok, Err, refl, sym, ap, ◌∙◌, arith, append_assoc, subst}
 use Rattle.std.specs.Option.{option_and_then}
 use Rattle.std.specs.Result.{IsErrAnd}
-use Rattle.first_form.specs.declared.read.Stop.{Stop}
-use Rattle.first_form.specs.declared.read.Stop.TheVariants as stop
+use Rattle.first_form.specs.declared.stop.Stop.{Stop}
+use Rattle.first_form.specs.declared.stop.Stop.TheVariants as stop
 use Rattle.first_form.specs.Names.{Text}
 use Rattle.first_form.specs.Reading.{Leaves, cut, name, names, more, behind, with_front}
 

@@ -6,7 +6,9 @@
 
 mod form;
 mod names;
+mod places;
 mod read;
+mod stop;
 
 pub use form::FirstForm;
 pub use names::{is_identifier, is_reserved};

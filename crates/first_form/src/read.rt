@@ -1,40 +1,12 @@
 ghost use Rattle.std.specs.Prelude.{◌≡◌, ◌+◌, ◌≤◌, ◌<◌, ◌^◌, length, drop, map, IfOk, IfSome};
 ghost use Rattle.first_form.specs.Reading as reading;
 
-use core_expr::{Memory, Text};
+use core_expr::Text;
 use sqlite_items::Items;
-use std::alloc::{AllocError, Global};
+use std::alloc::Global;
 
 use crate::names::{is_identifier, is_word};
-
-/// Why reading stopped.
-#[derive(Debug, Drop)]
-pub enum Stop {
-    Memory,
-    NotOfForm,
-}
-
-impl From<AllocError> for Stop {
-    ghost use Rattle.std.specs.Prelude.{◌≡◌};
-    ghost use Rattle.first_form.specs.declared.read.Stop.TheVariants as stop;
-
-    ghost from_gives = { λ _ e. e ≡ stop.Memory };
-
-    fn from(_: AllocError) -> Stop {
-        Stop::Memory
-    }
-}
-
-impl From<Memory> for Stop {
-    ghost use Rattle.std.specs.Prelude.{◌≡◌};
-    ghost use Rattle.first_form.specs.declared.read.Stop.TheVariants as stop;
-
-    ghost from_gives = { λ _ e. e ≡ stop.Memory };
-
-    fn from(_: Memory) -> Stop {
-        Stop::Memory
-    }
-}
+use crate::stop::Stop;
 
 /// The place after this text, where it stands at a place of the bytes.
 fn skip(bytes: &[u8], at: usize, text: &[u8]) -> Option<usize>
@@ -227,11 +199,11 @@ fn header(bytes: &[u8], module_name: &[u8]) -> Result<usize, Stop>
 
 /// What the third line says, and the place after it.
 #[derive(Drop)]
-struct FoundStatement {
-    theorem: Text,
-    hypotheses: Items<Text>,
-    conclusion: Text,
-    obvious_column: u64,
+pub struct FoundStatement {
+    pub theorem: Text,
+    pub hypotheses: Items<Text>,
+    pub conclusion: Text,
+    pub obvious_column: u64,
     end: usize,
 }
 
@@ -268,13 +240,13 @@ fn is_end(bytes: &[u8], at: usize) -> bool
 
 /// What the lines say, by names.
 #[derive(Drop)]
-struct FoundParts {
-    constants: Items<Text>,
-    statement: FoundStatement,
+pub struct FoundParts {
+    pub constants: Items<Text>,
+    pub statement: FoundStatement,
 }
 
 /// The parts of a text.
-fn parts(alloc: Global, bytes: &[u8], module_name: &[u8]) -> Result<FoundParts, Stop>
+pub fn parts(alloc: Global, bytes: &[u8], module_name: &[u8]) -> Result<FoundParts, Stop>
     requires { length bytes.now < 2 ^ 62 }
     ensures { reading.Gives reading.of_parts result (reading.parts module_name.now bytes.now) }
 {
