@@ -57,9 +57,10 @@ pub record IsLawful (form : FirstForm) : Type 0 where
   pub column : form.obvious_column ≡ length (theorem_of form) + 1
 
 -- these bytes are the form's text for a module of this name, with the last line feed or without it
-abbrev pub IsTextOf : Text → Text → FirstForm → Type 0
-IsTextOf module_name bytes form =
-    IsLawful form × (length bytes ≤ 1048576) × ((bytes ≡ written module_name form) ⊎ (bytes ++ codes "\n" ≡ written module_name form))
+pub record IsTextOf (module_name bytes : Text) (form : FirstForm) : Type 0 where
+  pub lawful : IsLawful form
+  pub short : length bytes ≤ 1048576
+  pub text : (bytes ≡ written module_name form) ⊎ (bytes ++ codes "\n" ≡ written module_name form)
 
 -- these bytes are a text of no form
 abbrev pub IsOfNoForm : Text → Text → Type 0

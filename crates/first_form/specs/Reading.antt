@@ -1,10 +1,11 @@
 -- Reading from the front: each part is cut off, and what follows it is left.
 use Rattle.std.specs.Prelude.{◌≡◌, ℕ, zero, suc, ◌+◌, ◌-◌, ◌≤◌, nat_eq, nat_lt, Bool, true, false, not, ◌&&◌, ◌||◌, if◌then◌else◌, List, [], ◌∷◌, ◌++◌, length, take, drop, position, Option, Some, None, Result, Ok, Err, codes}
 use Rattle.std.specs.List.{prefix_len, starts_with, list_any}
-use Rattle.std.specs.Option.{option_and_then}
+use Rattle.std.specs.Option.{option_and_then, is_some}
 use Rattle.first_form.specs.declared.form.FirstForm.{FirstForm}
-use Rattle.first_form.specs.declared.read.FoundParts.{FoundParts}
-use Rattle.first_form.specs.declared.read.FoundStatement.{FoundStatement}
+use Rattle.first_form.specs.declared.places.FoundPlaces.{FoundPlaces}
+use Rattle.first_form.specs.declared.scan.FoundParts.{FoundParts}
+use Rattle.first_form.specs.declared.scan.FoundStatement.{FoundStatement}
 use Rattle.first_form.specs.declared.stop.Stop.{Stop}
 use Rattle.first_form.specs.declared.stop.Stop.TheVariants as stop
 use Rattle.first_form.specs.Names.{Text, is_word, is_identifier, same_text}
@@ -171,6 +172,12 @@ are_new known (n ∷ ns) = if list_any (same_text n) known then false else are_n
 abbrev pub declared : List Text → Option (List Text)
 declared ns = if are_new [] ns then Some ns else None
 
+-- the name was none of these and stands behind them now, or it was one of them
+abbrev pub Adds : List Text → Text → Result (Unit {0}) Stop → List Text → Type 0
+Adds old n (Ok u) new = (list_any (same_text n) old ≡ false) × (new ≡ old ++ n ∷ [])
+Adds old n (Err stop.Memory) new = Unit {0}
+Adds old n (Err stop.NotOfForm) new = list_any (same_text n) old ≡ true
+
 -- the place of a name
 abbrev pub place : List Text → Text → Option ℕ
 place names n = position (same_text n) names
@@ -194,6 +201,9 @@ pub record Places : Type 0 where
   pub hypotheses : List ℕ
   pub conclusion : ℕ
 
+abbrev pub of_places : FoundPlaces → Places
+of_places p = record { hypotheses = p.hypotheses; conclusion = p.conclusion }
+
 abbrev pub with_conclusion : List ℕ → Option ℕ → Option Places
 with_conclusion hypotheses None = None
 with_conclusion hypotheses (Some conclusion) = Some (record { hypotheses = hypotheses; conclusion = conclusion })
@@ -203,7 +213,7 @@ formula_places names s = option_and_then (λ ps. with_conclusion ps (place names
 
 -- the same where the theorem's name is not among these
 abbrev pub apart_places : Statement → List Text → Option Places
-apart_places s names = if list_any (same_text s.theorem) names then None else formula_places names s
+apart_places s names = if is_some (place names s.theorem) then None else formula_places names s
 
 -- the places of the names of a lawful statement
 abbrev pub resolved : List Text → Statement → Option Places

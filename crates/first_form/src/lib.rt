@@ -7,8 +7,10 @@
 mod form;
 mod names;
 mod places;
-mod read;
+mod reader;
+mod scan;
 mod stop;
 
 pub use form::FirstForm;
 pub use names::{is_identifier, is_reserved};
+pub use reader::{is_read_one_way, read};

@@ -6,11 +6,22 @@ use indexmap::IndexSet;
 use sqlite_items::Items;
 use std::alloc::Global;
 
-use crate::read::FoundStatement;
+use crate::scan::FoundStatement;
 use crate::stop::Stop;
 
 /// The greatest number of hypotheses.
 const MAX_HYPOTHESES: usize = 200;
+
+/// Adds a name that is not among the known ones.
+fn add<'a>(known: &mut IndexSet<&'a [u8]>, name: &'a [u8]) -> Result<(), Stop>
+    ensures { reading.Adds (map (λ k. k.now) known.old.keys) name.now result (map (λ k. k.now) known.new.keys) }
+{
+    match known.insert_full(name) {
+        Ok((_, true)) => Ok(()),
+        Ok((_, false)) => Err(Stop::NotOfForm),
+        Err(_) => Err(Stop::Memory),
+    }
+}
 
 /// The names by place, where they differ from one another.
 fn declared<'a>(alloc: Global, names: &'a [Text]) -> Result<IndexSet<&'a [u8]>, Stop>
@@ -18,12 +29,7 @@ fn declared<'a>(alloc: Global, names: &'a [Text]) -> Result<IndexSet<&'a [u8]>, 
 {
     let mut known = IndexSet::new(alloc);
     for name in names {
-        let Ok((_, added)) = known.insert_full(name.bytes()) else {
-            return Err(Stop::Memory);
-        };
-        if !added {
-            return Err(Stop::NotOfForm);
-        }
+        add(&mut known, name.bytes())?;
     }
     Ok(known)
 }
@@ -57,23 +63,37 @@ pub struct FoundPlaces {
     pub conclusion: u64,
 }
 
-/// The places of a lawful statement's names.
-pub fn resolve(alloc: Global, constants: &[Text], statement: &FoundStatement) -> Result<FoundPlaces, Stop>
-    ensures { reading.Gives (λ p. record { hypotheses = p.hypotheses; conclusion = p.conclusion }) result (reading.resolved constants.now (reading.of_statement statement.now)) }
+/// The places of the names of a statement's formula.
+fn formula_places(alloc: Global, known: &IndexSet<&[u8]>, statement: &FoundStatement) -> Result<FoundPlaces, Stop>
+    ensures { reading.Gives reading.of_places result (reading.formula_places (map (λ k. k.now) known.now.keys) (reading.of_statement statement.now)) }
 {
-    if statement.hypotheses.len() > MAX_HYPOTHESES {
-        return Err(Stop::NotOfForm);
-    }
-    let known = declared(alloc, constants)?;
-    if place(&known, statement.theorem.bytes()).is_some() {
-        return Err(Stop::NotOfForm);
-    }
-    let hypotheses = places(alloc, &known, statement.hypotheses.as_slice())?;
-    let Some(conclusion) = place(&known, statement.conclusion.bytes()) else {
+    let hypotheses = places(alloc, known, statement.hypotheses.as_slice())?;
+    let Some(conclusion) = place(known, statement.conclusion.bytes()) else {
         return Err(Stop::NotOfForm);
     };
     Ok(FoundPlaces {
         hypotheses,
         conclusion,
     })
+}
+
+/// The same where the theorem's name is not among the known ones.
+fn apart_places(alloc: Global, known: &IndexSet<&[u8]>, statement: &FoundStatement) -> Result<FoundPlaces, Stop>
+    ensures { reading.Gives reading.of_places result (reading.apart_places (reading.of_statement statement.now) (map (λ k. k.now) known.now.keys)) }
+{
+    if place(known, statement.theorem.bytes()).is_some() {
+        return Err(Stop::NotOfForm);
+    }
+    formula_places(alloc, known, statement)
+}
+
+/// The places of the names of a lawful statement.
+pub fn resolve(alloc: Global, constants: &[Text], statement: &FoundStatement) -> Result<FoundPlaces, Stop>
+    ensures { reading.Gives reading.of_places result (reading.resolved constants.now (reading.of_statement statement.now)) }
+{
+    if statement.hypotheses.len() > MAX_HYPOTHESES {
+        return Err(Stop::NotOfForm);
+    }
+    let known = declared(alloc, constants)?;
+    apart_places(alloc, &known, statement)
 }

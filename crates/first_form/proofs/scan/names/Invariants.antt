@@ -1,6 +1,6 @@
 use Rattle.std.proofs.Common.{◌≡◌, ◌+◌, ◌-◌, ◌≤◌, length, drop}
 use Rattle.first_form.specs.Reading as reading
-use Rattle.first_form.proofs.read.names.Given as goal
+use Rattle.first_form.proofs.scan.names.Given as goal
 
 abbrev pub invariant-loop-next : goal.invariant-loop-next
 invariant-loop-next l = record {

@@ -1,7 +1,7 @@
 use Rattle.std.proofs.Common.{◌≡◌, ◌+◌, ◌-◌, ◌≤◌, length, drop}
 use Rattle.std.specs.List.{prefix_len}
 use Rattle.first_form.specs.Names.{is_word}
-use Rattle.first_form.proofs.read.word_end.Given as goal
+use Rattle.first_form.proofs.scan.word_end.Given as goal
 
 abbrev pub invariant-loop-end : goal.invariant-loop-end
 invariant-loop-end l = (l.end + prefix_len is_word (drop l.end l.bytes) ≡ l.at + prefix_len is_word (drop l.at l.bytes)) × (l.end ≤ length l.bytes)

@@ -1,10 +1,10 @@
 use Rattle.std.proofs.Common.{◌≡◌, ◌+◌, ◌-◌, ◌≤◌, ◌<◌, List, length, drop, suc, arith, ℕ, ap, ◌∙◌, sym, [], ◌∷◌, ◌++◌, length-append, length-drop}
 use Rattle.first_form.specs.Names.{Text}
-use Rattle.first_form.specs.declared.read.FoundName.{FoundName}
-use Rattle.first_form.specs.declared.read.FoundNames.{FoundNames}
+use Rattle.first_form.specs.declared.scan.FoundName.{FoundName}
+use Rattle.first_form.specs.declared.scan.FoundNames.{FoundNames}
 use Rattle.first_form.specs.Reading as reading
 use Rattle.first_form.proofs.Steps.{stops-at, names-first, names-next, names-fails, names-stops}
-use Rattle.first_form.proofs.read.names.Goals as goal
+use Rattle.first_form.proofs.scan.names.Goals as goal
 
 pub returns-in_err-one-clause-value : goal.returns-in_err-one-clause-value
 returns-in_err-one-clause-value c =
