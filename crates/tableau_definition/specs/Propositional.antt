@@ -1,5 +1,5 @@
 -- Propositional formulas, and the search where a branch has no others.
-use Rattle.std.specs.Prelude.{◌≡◌, ◌↔◌, ℕ, Bool, true, false, Option, Some, None, List, [], ◌∷◌, ◌++◌}
+use Rattle.std.specs.Prelude.{◌≡◌, ◌↔◌, ◌≤◌, ◌+◌, ◌^◌, ℕ, suc, Bool, true, false, Option, Some, None, List, [], ◌∷◌, ◌++◌}
 use Rattle.core_expr.specs.declared.head.Sym.{Sym}
 use Rattle.core_expr.specs.Tree.{Tree, true_, false_, not_, and_, or_, imp_, iff_}
 use Rattle.core_expr.specs.Tree.Tree.{app}
@@ -9,7 +9,8 @@ use Rattle.tableau_definition.specs.Branches.{Branch, formulas, has, Closing, cl
 use Rattle.tableau_definition.specs.Values.{Valued, joined, turned, both_true, one_true, same_truth, implied, value}
 use Rattle.tableau_definition.specs.Values.Truth.{Yes, No, Unknown}
 use Rattle.tableau_definition.specs.Ranks.{Side, Step, Result, gives, oldest, plain, split}
-use Rattle.tableau_definition.specs.Search.{first_rule, Open, apply, Next, turn, start}
+use Rattle.tableau_definition.specs.Search.{first_rule, Open, apply, Next, turn, End, start, search}
+use Rattle.tableau_definition.specs.Search.End.{Closed, Saturated, Spent}
 use Rattle.tableau_definition.specs.Search.Next.{Goes}
 
 -- built from TRUE, FALSE and symbols without arguments by the five connectives
@@ -122,10 +123,76 @@ connective_closing_from older (f ∷ fs) = elim (connective_closes older f) [ So
 abbrev pub connective_closing : Branch → Option Closing
 connective_closing b = connective_closing_from [] (formulas b)
 
+-- each open branch has P
+abbrev pub EachOpen : (Branch → Type 0) → List Open → Type 0
+EachOpen P [] = Unit {0}
+EachOpen P (o ∷ os) = P o.branch × EachOpen P os
+
 -- each open branch has propositional formulas alone
 abbrev pub OpenFormulas : List Open → Type 0
-OpenFormulas [] = Unit {0}
-OpenFormulas (o ∷ os) = Formulas (formulas o.branch) × OpenFormulas os
+OpenFormulas os = EachOpen (λ b. Formulas (formulas b)) os
+
+-- truth values
+abbrev pub negated : Bool → Bool
+negated true = false
+negated false = true
+
+abbrev pub one_holds : Bool → Bool → Bool
+one_holds true y = true
+one_holds false y = y
+
+abbrev pub agreeing : Bool → Bool → Bool
+agreeing true y = y
+agreeing false y = negated y
+
+-- a truth value for each symbol
+abbrev pub Valuation : Type 0
+Valuation = Sym → Bool
+
+-- the truth value of a propositional formula under a valuation; another formula is taken as false
+abbrev pub value_under : Valuation → Tree → Bool
+value_under v true_ = true
+value_under v false_ = false
+value_under v (app s end) = v s
+value_under v (not_ a) = negated (value_under v a)
+value_under v (and_ a b) = both (value_under v a) (value_under v b)
+value_under v (or_ a b) = one_holds (value_under v a) (value_under v b)
+value_under v (imp_ a b) = one_holds (negated (value_under v a)) (value_under v b)
+value_under v (iff_ a b) = agreeing (value_under v a) (value_under v b)
+value_under v _ = false
+
+abbrev pub AllHold : Valuation → List Tree → Type 0
+AllHold v [] = Unit {0}
+AllHold v (f ∷ fs) = (value_under v f ≡ true) × AllHold v fs
+
+-- every fact is true and the goal is false
+abbrev pub Falsifies : Valuation → List Tree → Tree → Type 0
+Falsifies v facts goal = AllHold v facts × (value_under v goal ≡ false)
+
+-- the test of the same
+abbrev pub all_hold : Valuation → List Tree → Bool
+all_hold v [] = true
+all_hold v (f ∷ fs) = both (value_under v f) (all_hold v fs)
+
+abbrev pub falsifies : Valuation → List Tree → Tree → Bool
+falsifies v facts goal = both (all_hold v facts) (negated (value_under v goal))
+
+-- true of exactly the symbols that are entries
+abbrev pub valuation_of : Branch → Valuation
+valuation_of b s = has b (app s end)
+
+-- the number of nodes with a connective on top
+abbrev pub connectives : Tree → ℕ
+connectives (not_ a) = suc (connectives a)
+connectives (and_ a b) = suc (connectives a + connectives b)
+connectives (or_ a b) = suc (connectives a + connectives b)
+connectives (imp_ a b) = suc (connectives a + connectives b)
+connectives (iff_ a b) = suc (connectives a + connectives b)
+connectives _ = 0
+
+abbrev pub all_connectives : List Tree → Tree → ℕ
+all_connectives [] goal = connectives goal
+all_connectives (f ∷ facts) goal = connectives f + all_connectives facts goal
 
 -- The laws. The test says what it tests.
 abbrev pub TestsFormulas : Type 0
@@ -152,3 +219,35 @@ StaysPropositional =
     → OpenFormulas (o ∷ os)
     → turn drops w n o os ≡ Goes cs
     → OpenFormulas cs
+
+abbrev pub TestsFalsifies : Type 0
+TestsFalsifies = (v : Valuation) (facts : List Tree) (goal : Tree) → (falsifies v facts goal ≡ true) ↔ Falsifies v facts goal
+
+-- a saturated end carries a branch whose valuation falsifies
+abbrev pub SaturatedFalsifies : Type 0
+SaturatedFalsifies =
+    (drops : Bool) (symbols : ℕ) (facts : List Tree) (goal : Tree) (limit used : ℕ) (b : Branch)
+    → Formulas facts
+    → Formula goal
+    → search drops symbols facts goal limit ≡ Saturated b used
+    → Falsifies (valuation_of b) facts goal
+
+-- a closed end comes only where no valuation falsifies
+abbrev pub ClosedIsValid : Type 0
+ClosedIsValid =
+    (drops : Bool) (symbols : ℕ) (facts : List Tree) (goal : Tree) (limit used : ℕ) (v : Valuation)
+    → Formulas facts
+    → Formula goal
+    → search drops symbols facts goal limit ≡ Closed used
+    → Falsifies v facts goal
+    → ⊥
+
+-- with so many turns the search comes to an end
+abbrev pub TurnsSuffice : Type 0
+TurnsSuffice =
+    (drops : Bool) (symbols : ℕ) (facts : List Tree) (goal : Tree) (limit used : ℕ)
+    → Formulas facts
+    → Formula goal
+    → 2 ^ (all_connectives facts goal + 1) ≤ limit
+    → search drops symbols facts goal limit ≡ Spent used
+    → ⊥
