@@ -18,3 +18,4 @@ pub mod Connectives
 pub mod Kept
 pub mod Grown
 pub mod Contracts
+pub mod Truths

@@ -1,6 +1,6 @@
 //! The search on propositional obligations: laws of its definition.
 
-ghost use Rattle.tableau_definition.specs.Propositional.{OnlyConnectiveRules, OnlyConnectiveClosings, OnlyConnectiveValues, TestsFormulas, StartsPropositional, StaysPropositional};
+ghost use Rattle.tableau_definition.specs.Propositional.{OnlyConnectiveRules, OnlyConnectiveClosings, OnlyConnectiveValues, TestsFormulas, StartsPropositional, StaysPropositional, TestsFalsifies};
 
 /// The test of propositional formulas says what it tests.
 #[tactic(auto, using(crate::proofs::Connectives::tests))]
@@ -36,4 +36,10 @@ pub fn starts_propositional()
 #[tactic(auto, using(crate::proofs::Kept::stays))]
 pub fn stays_propositional()
     ensures { StaysPropositional }
+{}
+
+/// The test of falsifying says what it tests.
+#[tactic(auto, using(crate::proofs::Truths::tests_falsifies))]
+pub fn tests_falsifies()
+    ensures { TestsFalsifies }
 {}
