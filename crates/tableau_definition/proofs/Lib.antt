@@ -19,3 +19,4 @@ pub mod Kept
 pub mod Grown
 pub mod Contracts
 pub mod Truths
+pub mod Saturates

@@ -34,6 +34,16 @@ pub both-hold : (x y : Bool) → x ≡ true → y ≡ true → both x y ≡ true
 both-hold true y h k = k
 both-hold false y h k = cc
 
+-- a value that says something says what is so
+abbrev pub Agrees : Truth → Bool → Type 0
+Agrees Yes x = x ≡ true
+Agrees No x = x ≡ false
+Agrees Unknown x = Unit {0}
+
+-- the grounds of a value that is known
+abbrev pub known : Truth → List Tree → List Tree
+known t gs = elim t [ Yes ↦ gs | No ↦ gs | Unknown ↦ [] ]
+
 module _ (v : Valuation) where
   all-tests : (fs : List Tree) → all_hold v fs ≡ true → AllHold v fs
   all-tests [] h = tt
@@ -241,12 +251,6 @@ module _ (v : Valuation) where
         | inr k ↦ iff-false (value_under v a) (value_under v b) k.0 k.1.0
       ]
 
-  -- a value that says something says what is so
-  abbrev Agrees : Truth → Bool → Type 0
-  Agrees Yes x = x ≡ true
-  Agrees No x = x ≡ false
-  Agrees Unknown x = Unit {0}
-
   opposite-agrees : (t : Truth) (x : Bool) → Agrees t x → Agrees (opposite t) (negated x)
   opposite-agrees Yes x h = ap negated h
   opposite-agrees No x h = ap negated h
@@ -289,9 +293,6 @@ module _ (v : Valuation) where
   -- where the grounds hold
   abbrev pub Told : Tree → Valued → Type 0
   Told f w = AllHold v (known_grounds w) → Agrees w.truth (value_under v f)
-
-  abbrev known : Truth → List Tree → List Tree
-  known t gs = elim t [ Yes ↦ gs | No ↦ gs | Unknown ↦ [] ]
 
   where-known : (t : Truth) (gs : List Tree) (x : Bool) → (AllHold v gs → Agrees t x) → AllHold v (known t gs) → Agrees t x
   where-known Yes gs x h k = h k

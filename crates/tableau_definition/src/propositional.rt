@@ -1,6 +1,6 @@
 //! The search on propositional obligations: laws of its definition.
 
-ghost use Rattle.tableau_definition.specs.Propositional.{OnlyConnectiveRules, OnlyConnectiveClosings, OnlyConnectiveValues, TestsFormulas, StartsPropositional, StaysPropositional, TestsFalsifies};
+ghost use Rattle.tableau_definition.specs.Propositional.{OnlyConnectiveRules, OnlyConnectiveClosings, OnlyConnectiveValues, TestsFormulas, StartsPropositional, StaysPropositional, TestsFalsifies, SaturatedFalsifies};
 
 /// The test of propositional formulas says what it tests.
 #[tactic(auto, using(crate::proofs::Connectives::tests))]
@@ -42,4 +42,10 @@ pub fn stays_propositional()
 #[tactic(auto, using(crate::proofs::Truths::tests_falsifies))]
 pub fn tests_falsifies()
     ensures { TestsFalsifies }
+{}
+
+/// Where the search on a propositional obligation ends saturated, in either edition, its branch's valuation falsifies.
+#[tactic(auto, using(crate::proofs::Saturates::saturated_falsifies))]
+pub fn saturated_falsifies()
+    ensures { SaturatedFalsifies }
 {}
