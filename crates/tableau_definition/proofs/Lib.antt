@@ -20,3 +20,4 @@ pub mod Grown
 pub mod Contracts
 pub mod Truths
 pub mod Saturates
+pub mod Refutes

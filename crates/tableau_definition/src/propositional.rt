@@ -1,6 +1,6 @@
 //! The search on propositional obligations: laws of its definition.
 
-ghost use Rattle.tableau_definition.specs.Propositional.{OnlyConnectiveRules, OnlyConnectiveClosings, OnlyConnectiveValues, TestsFormulas, StartsPropositional, StaysPropositional, TestsFalsifies, SaturatedFalsifies};
+ghost use Rattle.tableau_definition.specs.Propositional.{OnlyConnectiveRules, OnlyConnectiveClosings, OnlyConnectiveValues, TestsFormulas, StartsPropositional, StaysPropositional, TestsFalsifies, SaturatedFalsifies, ClosedIsValid};
 
 /// The test of propositional formulas says what it tests.
 #[tactic(auto, using(crate::proofs::Connectives::tests))]
@@ -48,4 +48,10 @@ pub fn tests_falsifies()
 #[tactic(auto, using(crate::proofs::Saturates::saturated_falsifies))]
 pub fn saturated_falsifies()
     ensures { SaturatedFalsifies }
+{}
+
+/// Where the search on a propositional obligation ends closed, in either edition, no valuation falsifies it.
+#[tactic(auto, using(crate::proofs::Refutes::closed_is_valid))]
+pub fn closed_is_valid()
+    ensures { ClosedIsValid }
 {}
