@@ -24,6 +24,7 @@ Nth (d ∷ b) (suc i) e = Nth b i e
 pub record Chosen (rule : Tree → Option Step) (b : Branch) (place : ℕ) (step : Step) : Type 0 where
   pub entry : Entry
   pub nth : Nth b place entry
+  pub live : entry.live ≡ true
   pub by : rule entry.formula ≡ Some step
 
 abbrev result_or : Result → Option Result → Result
@@ -32,22 +33,23 @@ result_or d (Some r) = r
 
 chosen-from : (rank : ℕ) (rule : Tree → Option Step) (i : ℕ) (b : Branch) (r : Result) → oldest rank rule i b ≡ Some r → (j : ℕ) × (r.entry ≡ i + j) × Chosen rule b j r.step
 chosen-from rank rule i [] r h = cc
-chosen-from rank rule i (e ∷ b) r h = go (chosen-from rank rule (suc i) b r) e.live (rule e.formula) refl h
+chosen-from rank rule i (e ∷ b) r h = go (chosen-from rank rule (suc i) b r) e.live (rule e.formula) refl refl h
   where
     after : ((j : ℕ) × (r.entry ≡ suc i + j) × Chosen rule b j r.step) → (j : ℕ) × (r.entry ≡ i + j) × Chosen rule (e ∷ b) j r.step
-    after t = let q : r.entry ≡ i + suc t.0 = omega (arith, t.1) in (suc t.0, q, record { entry = t.2.entry; nth = t.2.nth; by = t.2.by })
+    after t = let q : r.entry ≡ i + suc t.0 = omega (arith, t.1) in (suc t.0, q, record { entry = t.2.entry; nth = t.2.nth; live = t.2.live; by = t.2.by })
 
     go : (oldest rank rule (suc i) b ≡ Some r → (j : ℕ) × (r.entry ≡ suc i + j) × Chosen rule b j r.step)
         → (l : Bool) (o : Option Step)
+        → e.live ≡ l
         → rule e.formula ≡ o
         → elim l [ true ↦ elim o [ Some s ↦ Some (record { rank = rank; entry = i; step = s }) | None ↦ oldest rank rule (suc i) b ] | false ↦ oldest rank rule (suc i) b ] ≡ Some r
         → (j : ℕ) × (r.entry ≡ i + j) × Chosen rule (e ∷ b) j r.step
-    go ih false o q h = after (ih h)
-    go ih true None q h = after (ih h)
-    go ih true (Some s) q h =
+    go ih false o m q h = after (ih h)
+    go ih true None m q h = after (ih h)
+    go ih true (Some s) m q h =
         let w : record { rank = rank; entry = i; step = s } ≡ r = ap (result_or r) h in
         let z : r.entry ≡ i + 0 = let k : i ≡ r.entry = ap (λ (t : Result). t.entry) w in omega arith in
-        (0, z, record { entry = e; nth = refl; by = q ∙ ap (λ (t : Result). Some t.step) w })
+        (0, z, record { entry = e; nth = refl; live = m; by = q ∙ ap (λ (t : Result). Some t.step) w })
 
 pub chosen : (rank : ℕ) (rule : Tree → Option Step) (b : Branch) (r : Result) → oldest rank rule 0 b ≡ Some r → Chosen rule b r.entry r.step
 chosen rank rule b r h = of (chosen-from rank rule 0 b r h)

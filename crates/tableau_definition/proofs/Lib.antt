@@ -21,3 +21,4 @@ pub mod Contracts
 pub mod Truths
 pub mod Saturates
 pub mod Refutes
+pub mod Enough

@@ -1,6 +1,6 @@
 //! The search on propositional obligations: laws of its definition.
 
-ghost use Rattle.tableau_definition.specs.Propositional.{OnlyConnectiveRules, OnlyConnectiveClosings, OnlyConnectiveValues, TestsFormulas, StartsPropositional, StaysPropositional, TestsFalsifies, SaturatedFalsifies, ClosedIsValid};
+ghost use Rattle.tableau_definition.specs.Propositional.{OnlyConnectiveRules, OnlyConnectiveClosings, OnlyConnectiveValues, TestsFormulas, StartsPropositional, StaysPropositional, TestsFalsifies, SaturatedFalsifies, ClosedIsValid, TurnsSuffice};
 
 /// The test of propositional formulas says what it tests.
 #[tactic(auto, using(crate::proofs::Connectives::tests))]
@@ -54,4 +54,11 @@ pub fn saturated_falsifies()
 #[tactic(auto, using(crate::proofs::Refutes::closed_is_valid))]
 pub fn closed_is_valid()
     ensures { ClosedIsValid }
+{}
+
+/// With `2 ^ (c + 1)` turns or more, c the number of connectives of facts and goal, the turns of a propositional obligation suffice, in
+/// either edition.
+#[tactic(auto, using(crate::proofs::Enough::turns_suffice))]
+pub fn turns_suffice()
+    ensures { TurnsSuffice }
 {}
