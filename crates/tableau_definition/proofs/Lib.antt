@@ -22,3 +22,4 @@ pub mod Truths
 pub mod Saturates
 pub mod Refutes
 pub mod Enough
+pub mod Reducing
