@@ -1,16 +1,14 @@
 -- How many turns are enough for a propositional obligation.
-use Rattle.std.specs.Prelude.{◌≡◌, ℕ, zero, suc, ◌+◌, ◌*◌, ◌^◌, ◌<◌, ◌≤◌, Bool, true, false, Option, Some, None, List, [], ◌∷◌, ◌++◌}
+use Rattle.std.specs.Prelude.{◌≡◌, ℕ, zero, suc, ◌+◌, ◌^◌, ◌<◌, ◌≤◌, Bool, true, false, Option, Some, None, List, [], ◌∷◌, ◌++◌}
 use Rattle.std.proofs.Common.{refl, ap, sym, ◌∙◌, arith, subst, inl, inr}
 use Rattle.std.proofs.Math.Nat.{pow-suc}
-use Rattle.core_expr.specs.Tree.{Tree, true_, false_, not_, and_, or_, imp_, iff_}
-use Rattle.core_expr.specs.Tree.Tree.{app}
-use Rattle.core_expr.specs.Tree.Parts.{end}
-use Rattle.tableau_definition.specs.Branches.{Entry, Branch, formulas, has, add, add_all, used, Closing, closing}
+use Rattle.core_expr.specs.Tree.{Tree, not_}
+use Rattle.tableau_definition.specs.Branches.{Entry, Branch, formulas, has, add, add_all, used, Closing}
 use Rattle.tableau_definition.specs.Ranks.{Side, Step, Result, gives, split}
-use Rattle.tableau_definition.specs.Search.{first_rule, Open, Turning, Next, Mark, union, needs_of, without, contains, split_number, waiting, with_path, apply_sides, apply, mark_next, rest, taken, turn, End, run, start, spare, search}
+use Rattle.tableau_definition.specs.Search.{first_rule, Open, Turning, Next, Mark, union, needs_of, without, contains, split_number, waiting, with_path, apply_sides, apply, mark_next, rest, taken, turn, run, start, spare, search}
 use Rattle.tableau_definition.specs.Search.Mark.{Left, Waiting, Needed}
 use Rattle.tableau_definition.specs.Search.Next.{Stuck, Goes}
-use Rattle.tableau_definition.specs.Search.End.{Closed, Saturated, Spent}
+use Rattle.tableau_definition.specs.Search.End.{Saturated, Spent}
 use Rattle.tableau_definition.specs.Propositional.{Formula, Formulas, connective_plain, all_true, first_false, settle_between, connective_settle, connectives, all_connectives, OpenFormulas, TurnsSuffice}
 use Rattle.tableau_definition.specs.Propositional.Formula.{f_true, f_false, f_symbol, f_not, f_and, f_or, f_imp, f_iff}
 use Rattle.tableau_definition.proofs.Kept.{Nth, Chosen, by-rank, chosen-formula, turn-cases, starts, stays}
@@ -122,6 +120,7 @@ settle-below b f p = go (split f) (split-below f p)
       where
         some : 0 < weight f
         some = let k : weights l.added < weight f = h.0.1 in omega arith
+
         pick : (x y : Bool) (u w : Option (List Tree)) → BelowBy (weight f) (elim x [
           | true ↦ gives 0 (f ∷ []) []
           | false ↦ elim y [
@@ -135,6 +134,7 @@ settle-below b f p = go (split f) (split-below f p)
         pick false false None (Some gs) = (((refl, h.0.1), tt), tt)
         pick false false None None = tt
     between (l ∷ r ∷ s ∷ ss) h = tt
+
     go : (o : Option Step) → BelowBy (weight f) o → BelowBy (weight f) (elim o [ None ↦ None | Some s ↦ settle_between b f s.sides ])
     go None h = tt
     go (Some s) h = between s.sides h.0

@@ -1,16 +1,14 @@
 -- The entry that a rule uses; what a turn keeps of a branch of propositional formulas.
-use Rattle.std.specs.Prelude.{◌≡◌, ℕ, zero, suc, ◌+◌, Bool, true, false, nat_eq, Option, Some, None, List, [], ◌∷◌, ◌++◌, ◌⊎◌}
+use Rattle.std.specs.Prelude.{◌≡◌, ℕ, zero, suc, ◌+◌, Bool, true, false, Option, Some, None, List, [], ◌∷◌, ◌++◌, ◌⊎◌}
 use Rattle.std.proofs.Common.{refl, ap, sym, ◌∙◌, arith, subst, inl, inr}
-use Rattle.core_expr.specs.Tree.{Tree, Parts, true_, false_, not_, and_, or_, imp_, iff_}
-use Rattle.core_expr.specs.Tree.Tree.{bound, app, node, bind}
-use Rattle.core_expr.specs.Tree.Parts.{end, part}
+use Rattle.core_expr.specs.Tree.{Tree, not_}
 use Rattle.tableau_definition.specs.Branches.{Entry, Branch, formulas, has, add, add_all, used, Closing, closing}
 use Rattle.tableau_definition.specs.Ranks.{Side, Step, Result, gives, oldest, split}
-use Rattle.tableau_definition.specs.Search.{first_rule, Open, Turning, Next, union, needs_of, without, contains, split_number, waiting, with_path, apply_sides, apply, set_mark, mark_next, rest, taken, turn, End, run, start, Mark}
+use Rattle.tableau_definition.specs.Search.{first_rule, Open, Turning, Next, union, needs_of, without, contains, split_number, waiting, with_path, apply_sides, apply, mark_next, rest, taken, turn, End, run, Mark}
 use Rattle.tableau_definition.specs.Search.End.{Closed, Saturated, Spent}
 use Rattle.tableau_definition.specs.Search.Mark.{Left, Waiting, Needed}
 use Rattle.tableau_definition.specs.Search.Next.{Stuck, Goes}
-use Rattle.tableau_definition.specs.Propositional.{Formula, Formulas, connective_plain, all_true, first_false, settle_between, connective_settle, connective_rule, EachOpen, StartsPropositional, StaysPropositional}
+use Rattle.tableau_definition.specs.Propositional.{Formula, Formulas, connective_plain, all_true, first_false, settle_between, connective_settle, EachOpen, OpenFormulas, StartsPropositional, StaysPropositional}
 use Rattle.tableau_definition.specs.Propositional.Formula.{f_true, f_false, f_symbol, f_not, f_and, f_or, f_imp, f_iff}
 use Rattle.tableau_definition.proofs.Connectives.{or_else, rules_left, Formulas-append, SidesFormulas, StepFormulas, split-formulas}
 
@@ -215,6 +213,7 @@ turn-cases drops w n o os cs P h shut ruled = go (closing o.branch) refl h
     rule : closing o.branch ≡ None → (x : Option Result) → first_rule w o.branch ≡ x → elim x [ None ↦ Stuck o.branch | Some r ↦ Goes (with_path n o.path (apply n r o.branch) ++ os) ] ≡ Goes cs → P cs
     rule e None q h = cc
     rule e (Some r) q h = subst P (ap (next_of []) h) (ruled r e q)
+
     go : (x : Option Closing) → closing o.branch ≡ x
         → elim x [
           | Some c ↦ Goes (elim drops [ true ↦ taken o.path (needs_of o.branch c.entries) os | false ↦ os ])
@@ -238,6 +237,7 @@ stuck-case drops w n o os c h = go (closing o.branch) refl h
     rule : closing o.branch ≡ None → (x : Option Result) → first_rule w o.branch ≡ x → elim x [ None ↦ Stuck o.branch | Some r ↦ Goes (with_path n o.path (apply n r o.branch) ++ os) ] ≡ Stuck c → (o.branch ≡ c) × IsStuck w o.branch
     rule e None q h = (ap (stuck_of o.branch) h, (e, q))
     rule e (Some r) q h = cc
+
     go : (x : Option Closing) → closing o.branch ≡ x
         → elim x [
           | Some c ↦ Goes (elim drops [ true ↦ taken o.path (needs_of o.branch c.entries) os | false ↦ os ])
@@ -294,8 +294,12 @@ apply-formulas needs b i rises (s ∷ ss) h p = (formulas-add_all needs (used s.
 pub starts : StartsPropositional
 starts facts goal p q = (formulas-add_all [] [] (facts ++ not_ goal ∷ []) tt (Formulas-append facts (not_ goal ∷ []) p (f_not q, tt)), tt)
 
+rule-keeps : (w : Tree) (n : ℕ) (b : Branch) (r : Result) → OfFormulas b → first_rule w b ≡ Some r → EachBranch OfFormulas (apply n r b)
+rule-keeps w n b r k q = apply-formulas (union (needs_of b r.step.named) (split_number n r.step.sides)) b r.entry r.step.rises r.step.sides k (rule-formulas w b r k q)
+
+-- the open branches after a rule
+pub result-formulas : (w : Tree) (n : ℕ) (o : Open) (os : List Open) (r : Result) → OpenFormulas (o ∷ os) → first_rule w o.branch ≡ Some r → OpenFormulas (with_path n o.path (apply n r o.branch) ++ os)
+result-formulas w n o os r p q = each-append OfFormulas (with_path n o.path (apply n r o.branch)) os (each-path OfFormulas n o.path (apply n r o.branch) (rule-keeps w n o.branch r p.0 q)) p.1
+
 pub stays : StaysPropositional
-stays drops w n o os cs p h =
-    turn-keeps drops w OfFormulas
-    (λ n b r k q. apply-formulas (union (needs_of b r.step.named) (split_number n r.step.sides)) b r.entry r.step.rises r.step.sides k (rule-formulas w b r k q))
-    n o os cs p h
+stays drops w n o os cs p h = turn-keeps drops w OfFormulas (rule-keeps w) n o os cs p h

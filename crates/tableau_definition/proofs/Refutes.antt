@@ -1,12 +1,11 @@
 -- Where the search on a propositional obligation ends closed, no valuation falsifies it.
-use Rattle.std.specs.Prelude.{◌≡◌, ℕ, Bool, true, false, Option, Some, None, List, [], ◌∷◌, ◌++◌, ◌⊎◌}
+use Rattle.std.specs.Prelude.{◌≡◌, ℕ, Bool, true, false, Option, Some, None, List, [], ◌∷◌, ◌++◌}
 use Rattle.std.proofs.Common.{refl, ap, sym, ◌∙◌, subst, inl, inr}
-use Rattle.core_expr.specs.Tree.{Tree, true_, false_, not_, and_, or_, imp_, iff_}
-use Rattle.core_expr.specs.Terms.{same}
+use Rattle.core_expr.specs.Tree.{Tree, not_}
 use Rattle.core_expr.proofs.Equal.{same-true}
 use Rattle.seq_calculus.specs.Calculus.{HasAll, IsClosed, AllClosed}
 use Rattle.tableau_definition.specs.Terms.{first_some}
-use Rattle.tableau_definition.specs.Branches.{Branch, formulas, has, add, add_all, used, Closing, closing, shuts_first, is_not_of, alone, partner}
+use Rattle.tableau_definition.specs.Branches.{Branch, formulas, has, add, add_all, used, Closing, shuts_first, is_not_of, alone, partner}
 use Rattle.tableau_definition.specs.Values.{Truth, in_list}
 use Rattle.tableau_definition.specs.Values.Truth.{Yes, No, Unknown}
 use Rattle.tableau_definition.specs.Ranks.{Side, Step, Result, gives, split}
@@ -14,7 +13,7 @@ use Rattle.tableau_definition.specs.Search.{first_rule, spare}
 use Rattle.tableau_definition.specs.Turns.{Turns, result_of, newly, minus, meets, used_by, IsClosedFor}
 use Rattle.tableau_definition.specs.Turns.Turns.{shut, one, first, both}
 use Rattle.tableau_definition.specs.Laws.{start_branch}
-use Rattle.tableau_definition.specs.Propositional.{Formula, Formulas, negated, Valuation, value_under, AllHold, Falsifies, connective_plain, connective_value, all_true, first_false, settle_between, connective_settle, connective_closes, connective_closing_from, connective_closing, ClosedIsValid}
+use Rattle.tableau_definition.specs.Propositional.{Formula, Formulas, negated, Valuation, value_under, AllHold, connective_plain, connective_value, all_true, first_false, settle_between, connective_settle, connective_closes, connective_closing_from, ClosedIsValid}
 use Rattle.tableau_definition.specs.Propositional.Formula.{f_true, f_false, f_symbol, f_not, f_and, f_or, f_imp, f_iff}
 use Rattle.tableau_definition.proofs.Says.{in_list-sound}
 use Rattle.tableau_definition.proofs.Contracts.{closed_has_tree, tree_refutes}
@@ -73,6 +72,7 @@ module _ (v : Valuation) where
       truth _ (f_or p q) k e t = cc
       truth _ (f_imp p q) k e t = cc
       truth _ (f_iff p q) k e t = cc
+
       go : (f : Tree) → Formula f → (o : Option ℕ) → shuts_first f ≡ o → alone f o ≡ Some c → AllHold v c.entries → ⊥
       go f p None e h m = cc
       go f p (Some k) e h m = let q : f ∷ [] ≡ c.entries = ap (entries_or c) h in truth f p k e (subst (AllHold v) (sym q) m).0
@@ -92,6 +92,7 @@ module _ (v : Valuation) where
     where
       pair : f ∷ g ∷ [] ≡ c.entries → (value_under v f ≡ true) × (value_under v g ≡ true)
       pair e = let t : AllHold v (f ∷ g ∷ []) = subst (AllHold v) (sym e) m in (t.0, t.1.0)
+
       go : (x y : Bool) → is_not_of f g ≡ x → is_not_of g f ≡ y
           → ◌≡◌ {A = Option Closing} (elim x [ true ↦ Some (record { kind = 2; entries = f ∷ g ∷ [] }) | false ↦ elim y [ true ↦ Some (record { kind = 2; entries = f ∷ g ∷ [] }) | false ↦ None ] ]) (Some c)
           → ⊥
@@ -204,6 +205,7 @@ module _ (v : Valuation) where
           pick false false None (Some gs) e d = λ h. elim (k h.0) [ inl m ↦ inl m | inr m ↦ elim m [ inl n ↦ absurd (first-false-clash b r.added q.1.0 gs d h.1 n) | inr n ↦ absurd n ] ]
           pick false false None None e d = tt
       between (l ∷ r ∷ s ∷ ss) q k = tt
+
       go : (o : Option Step) → StepFormulas o → Forward v f o → Tells (elim o [ None ↦ None | Some s ↦ settle_between b f s.sides ])
       go None q k = tt
       go (Some s) q k = between s.sides q k
@@ -280,6 +282,7 @@ module _ (v : Valuation) where
             | inl x ↦ i (minus-true (used_by (result_of b m r l) t) (newly b l.added) (newly-true b l.added x) e.0)
             | inr y ↦ elim y [ inl x ↦ j (minus-true (used_by (result_of b m r s) u) (newly b s.added) (newly-true b s.added x) e.1) | inr x ↦ absurd x ]
           ]
+
       go : (AllHold v (used_by (result_of b m r l) t) → ⊥) → (AllHold v (used_by (result_of b m r s) u) → ⊥)
           → (x y : Bool) → meets (used_by (result_of b m r l) t) (newly b l.added) ≡ x
           → AllHold v (elim x [
@@ -304,6 +307,7 @@ module _ (v : Valuation) where
       append : (c : Branch) → AllHold v (formulas c) → AllHold v (formulas (c ++ record { formula = f; live = true; count = 0; needs = needs } ∷ []))
       append [] h = (k.0, tt)
       append (e ∷ c) h = (h.0, append c h.1)
+
       one : (y : Bool) → AllHold v (formulas (elim y [ true ↦ b | false ↦ b ++ record { formula = f; live = true; count = 0; needs = needs } ∷ [] ]))
       one true = h
       one false = append b h

@@ -1,25 +1,24 @@
 -- The valuation of a saturated branch makes each formula on it true.
 use Rattle.std.specs.Prelude.{◌≡◌, ℕ, zero, suc, ◌+◌, ◌<◌, ◌≤◌, Bool, true, false, Option, Some, None, List, [], ◌∷◌, ◌++◌, ◌⊎◌}
 use Rattle.std.proofs.Common.{refl, ap, sym, ◌∙◌, arith, subst, inl, inr}
-use Rattle.core_expr.specs.Tree.{Tree, Parts, true_, false_, not_, and_, or_, imp_, iff_}
+use Rattle.core_expr.specs.Tree.{Tree, true_, false_, not_, and_, or_, imp_, iff_}
 use Rattle.core_expr.specs.Tree.Tree.{bound, app, node, bind}
-use Rattle.core_expr.specs.Tree.Parts.{end, part}
+use Rattle.core_expr.specs.Tree.Parts.{end}
 use Rattle.core_expr.specs.Terms.{same, nodes}
 use Rattle.seq_calculus.specs.Calculus.{Has, HasAll}
 use Rattle.tableau_definition.specs.Terms.{first_some}
-use Rattle.tableau_definition.specs.Branches.{Entry, Branch, formulas, has, add, add_all, used, Closing, closing, shuts_first, is_not_of, alone, partner}
+use Rattle.tableau_definition.specs.Branches.{Entry, Branch, formulas, has, add, add_all, used, Closing, shuts_first, is_not_of, alone, partner}
 use Rattle.tableau_definition.specs.Values.{Truth, Valued, opposite, both_true, one_true, same_truth, implied, in_list, merged, known_grounds, joined, turned}
 use Rattle.tableau_definition.specs.Values.Truth.{Yes, No, Unknown}
 use Rattle.tableau_definition.specs.Ranks.{Side, Step, Result, gives, oldest, split}
-use Rattle.tableau_definition.specs.Search.{first_rule, Open, union, needs_of, split_number, apply_sides, apply, run, start, spare, search}
-use Rattle.tableau_definition.specs.Search.End.{Saturated}
-use Rattle.tableau_definition.specs.Propositional.{Formula, Formulas, negated, Valuation, value_under, AllHold, Falsifies, valuation_of, connective_plain, yes_by, no_by, on_branch, connective_value, all_true, first_false, settle_between, connective_settle, connective_rule, connective_closes, connective_closing_from, connective_closing, SaturatedFalsifies}
+use Rattle.tableau_definition.specs.Search.{first_rule, union, needs_of, split_number, apply_sides, apply, start, spare, search}
+use Rattle.tableau_definition.specs.Propositional.{Formula, Formulas, negated, Valuation, value_under, AllHold, valuation_of, connective_plain, yes_by, no_by, on_branch, connective_value, all_true, first_false, settle_between, connective_settle, connective_rule, connective_closes, connective_closing_from, connective_closing, SaturatedFalsifies}
 use Rattle.tableau_definition.specs.Propositional.Formula.{f_true, f_false, f_symbol, f_not, f_and, f_or, f_imp, f_iff}
 use Rattle.tableau_definition.proofs.Used.{same-self}
 use Rattle.tableau_definition.proofs.Connectives.{or_else, rules_left, closings_left, Formulas-append, SidesFormulas, StepFormulas, split-formulas}
 use Rattle.tableau_definition.proofs.Sides.{has-sound}
 use Rattle.tableau_definition.proofs.Kept.{Nth, Chosen, by-rank, chosen-formula, rule-formulas, formulas-add_all, formulas-used, EachBranch, IsStuck, run-keeps}
-use Rattle.tableau_definition.proofs.Truths.{negated-false, false-negated, AllHold-append, AllHold-split, SomeHold, Backward, plain-backward, split-backward, Agrees, known, Told, value-told}
+use Rattle.tableau_definition.proofs.Truths.{negated-false, AllHold-split, SomeHold, Backward, plain-backward, split-backward, Agrees, known, value-told}
 
 -- formulas on the branch, of fewer than n nodes
 abbrev pub Under : Branch → ℕ → List Tree → Type 0
@@ -91,8 +90,8 @@ joined-grounded : (op : Truth → Truth → Truth) (b : Branch) (f a c : Tree) �
 joined-grounded op b f a c e s t p q =
     any-grounded b f (op s.truth t.truth) (merged (known_grounds s) (known_grounds t))
     (merged-under b (suc (nodes f)) (known_grounds s) (known_grounds t)
-      (Under-more b (suc (suc (nodes a))) (suc (nodes f)) (known_grounds s) (omega (arith, e, nodes-positive c)) (known-under b a s.truth s.grounds p))
-      (Under-more b (suc (suc (nodes c))) (suc (nodes f)) (known_grounds t) (omega (arith, e, nodes-positive a)) (known-under b c t.truth t.grounds q)))
+    (Under-more b (suc (suc (nodes a))) (suc (nodes f)) (known_grounds s) (omega (arith, e, nodes-positive c)) (known-under b a s.truth s.grounds p))
+    (Under-more b (suc (suc (nodes c))) (suc (nodes f)) (known_grounds t) (omega (arith, e, nodes-positive a)) (known-under b c t.truth t.grounds q)))
 
 value-grounded : (b : Branch) (f : Tree) → Formula f → GroundedBy b f (connective_value b f)
 value-grounded b _ f_true = go (has b true_) refl
@@ -183,7 +182,7 @@ all-backed b n (f ∷ fs) p l h =
         record {
           grounds = gs ++ later.grounds;
           under = Under-append b n gs later.grounds (Under-more b (suc (nodes f)) n gs l.0 g) later.under;
-          holds = λ v m. let t = AllHold-split v gs later.grounds m in (k v t.0, later.holds v t.1)
+          holds = λ v m. let t = AllHold-split v gs later.grounds m in (k v t.0, later.holds v t.1);
         }
     go No gs g k ih h = cc
     go Unknown gs g k ih h = cc
@@ -232,8 +231,10 @@ settle-explains b f p = go (split f) (split-formulas f p) (split-smaller f p) (�
       where
         left_why : all_true b s.added ≡ true → (c : Branch) → Within b c → Why c f
         left_why e c w = backed-why b c f s.added (all-backed b (nodes f) s.added q.0 l.0 e) (λ v m. k v (inl m)) w
+
         right_why : all_true b r.added ≡ true → (c : Branch) → Within b c → Why c f
         right_why e c w = backed-why b c f r.added (all-backed b (nodes f) r.added q.1.0 l.1.0 e) (λ v m. k v (inr (inl m))) w
+
         pick : (x y : Bool) → all_true b s.added ≡ x → all_true b r.added ≡ y → (i j : Option (List Tree)) → StepExplains b f (elim x [
           | true ↦ gives 0 (f ∷ []) []
           | false ↦ elim y [
@@ -247,6 +248,7 @@ settle-explains b f p = go (split f) (split-formulas f p) (split-smaller f p) (�
         pick false false e d None (Some gs) = ((λ c w h. (s.added, smaller-under c (nodes f) s.added h l.0, λ v m. k v (inl m))), tt)
         pick false false e d None None = tt
     between (s ∷ r ∷ t ∷ ss) q l k = tt
+
     go : (o : Option Step) → StepFormulas o → StepSmaller (nodes f) o → ((v : Valuation) → Backward v f o) → StepExplains b f (elim o [ None ↦ None | Some s ↦ settle_between b f s.sides ])
     go None q l k = tt
     go (Some s) q l k = between s.sides q l k
@@ -326,10 +328,14 @@ apply-keeps all needs b i rises e n k [] p x = tt
 apply-keeps all needs b i rises e n k (s ∷ ss) p x =
     let c : Branch = add_all needs (used s.stays rises b i) s.added in
     let w : Within b c = λ f h. Within-add_all needs (used s.stays rises b i) s.added f (Within-used s.stays rises b i f h) in
-    let y : Why c e.formula = x.0 c w (added-on needs (used s.stays rises b i) s.added) in
-    ((formulas-add_all needs (used s.stays rises b i) s.added (formulas-used s.stays rises b i k.0) p.0,
-      Explained-add_all needs c (used s.stays rises b i) s.added (Explained-used s.stays rises c b i e n y (Explained-within b c b w k.1)),
-      HasAll-within b c all w k.2), apply-keeps all needs b i rises e n k ss p.1 x.1)
+    let y : Why c e.formula = x.0 c w (added-on needs (used s.stays rises b i) s.added) in (
+      (
+        formulas-add_all needs (used s.stays rises b i) s.added (formulas-used s.stays rises b i k.0) p.0,
+        Explained-add_all needs c (used s.stays rises b i) s.added (Explained-used s.stays rises c b i e n y (Explained-within b c b w k.1)),
+        HasAll-within b c all w k.2,
+      ),
+      apply-keeps all needs b i rises e n k ss p.1 x.1,
+    )
 
 chosen-keeps : (all : List Tree) (rule : Tree → Option Step) (b : Branch) → ((f : Tree) → Formula f → StepExplains b f (rule f)) → Keeps all b → (needs : List ℕ) (i : ℕ) (s : Step) → SidesFormulas s.sides → Chosen rule b i s
     → EachBranch (Keeps all) (apply_sides needs b i s.rises s.sides)
@@ -349,7 +355,7 @@ rule-keeps all w n b r k h =
     ]
 
 -- a branch that does not close
-none-both : {A : Type 0} (x y : Option A) → or_else x y ≡ None → (x ≡ None) × (y ≡ None)
+pub none-both : {A : Type 0} (x y : Option A) → or_else x y ≡ None → (x ≡ None) × (y ≡ None)
 none-both None y h = (refl, h)
 none-both (Some z) y h = cc
 
@@ -357,7 +363,7 @@ alone-none : (f : Tree) (o : Option ℕ) → alone f o ≡ None → o ≡ None
 alone-none f None h = refl
 alone-none f (Some k) h = cc
 
-shut-none : (older fs : List Tree) → connective_closing_from older fs ≡ None → (f : Tree) → Has fs f → shuts_first f ≡ None
+pub shut-none : (older fs : List Tree) → connective_closing_from older fs ≡ None → (f : Tree) → Has fs f → shuts_first f ≡ None
 shut-none older [] h f k = absurd k
 shut-none older (x ∷ fs) h f (inl e) =
     let t = none-both (connective_closes older x) (connective_closing_from (older ++ x ∷ []) fs) h in
@@ -407,7 +413,7 @@ clash false h k = cc
 not-itself : (f : Tree) → f ≡ not_ f → ⊥
 not-itself f e = let k : nodes f ≡ nodes (not_ f) = ap nodes e in absurd (omega arith)
 
-pair-none : (older fs : List Tree) → connective_closing_from older fs ≡ None → (f : Tree) → Has fs f → Has fs (not_ f) → ⊥
+pub pair-none : (older fs : List Tree) → connective_closing_from older fs ≡ None → (f : Tree) → Has fs f → Has fs (not_ f) → ⊥
 unfolding Apart
 pair-none older [] h f k m = k
 pair-none older (x ∷ fs) h f (inl e) (inl d) = not-itself f (sym e ∙ d)
@@ -421,7 +427,7 @@ pair-none older (x ∷ fs) h f (inr k) (inl d) =
     clash (same f f) (same-self f) a.1
 pair-none older (x ∷ fs) h f (inr k) (inr m) = pair-none (older ++ x ∷ []) fs (none-both (connective_closes older x) (connective_closing_from (older ++ x ∷ []) fs) h).1 f k m
 
-has-complete : (b : Branch) (f : Tree) → Has (formulas b) f → has b f ≡ true
+pub has-complete : (b : Branch) (f : Tree) → Has (formulas b) f → has b f ≡ true
 has-complete [] f h = absurd h
 has-complete (e ∷ b) f h = go (has-complete b f) (same e.formula f) refl h
   where

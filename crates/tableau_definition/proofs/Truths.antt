@@ -1,15 +1,15 @@
 -- Truth under a valuation: of values with their grounds, of what the rules add.
-use Rattle.std.specs.Prelude.{◌≡◌, ℕ, suc, Bool, true, false, Option, Some, None, List, [], ◌∷◌, ◌++◌, ◌⊎◌}
-use Rattle.std.proofs.Common.{refl, ap, sym, ◌∙◌, subst, inl, inr}
-use Rattle.core_expr.specs.Tree.{Tree, Parts, true_, false_, not_, and_, or_, imp_, iff_}
-use Rattle.core_expr.specs.Tree.Tree.{bound, app, node, bind}
-use Rattle.core_expr.specs.Tree.Parts.{end, part}
+use Rattle.std.specs.Prelude.{◌≡◌, Bool, true, false, Option, Some, None, List, [], ◌∷◌, ◌++◌, ◌⊎◌}
+use Rattle.std.proofs.Common.{refl, ap, sym, subst, inl, inr}
+use Rattle.core_expr.specs.Tree.{Tree, true_, false_, not_, and_, or_, imp_, iff_}
+use Rattle.core_expr.specs.Tree.Tree.{app}
+use Rattle.core_expr.specs.Tree.Parts.{end}
 use Rattle.seq_calculus.specs.Calculus.{Has}
 use Rattle.tableau_definition.specs.Branches.{Branch, has}
 use Rattle.tableau_definition.specs.Values.{Truth, Valued, opposite, both_true, one_true, same_truth, implied, in_list, merged, known_grounds, joined, turned}
 use Rattle.tableau_definition.specs.Values.Truth.{Yes, No, Unknown}
-use Rattle.tableau_definition.specs.Ranks.{Side, Step, gives, split}
-use Rattle.tableau_definition.specs.Propositional.{Formula, Formulas, both, negated, one_holds, agreeing, Valuation, value_under, AllHold, all_hold, falsifies, Falsifies, TestsFalsifies, connective_plain, yes_by, no_by, on_branch, connective_value, all_true, first_false}
+use Rattle.tableau_definition.specs.Ranks.{Side, Step, split}
+use Rattle.tableau_definition.specs.Propositional.{Formula, both, negated, one_holds, agreeing, Valuation, value_under, AllHold, all_hold, TestsFalsifies, connective_plain, yes_by, no_by, on_branch, connective_value}
 use Rattle.tableau_definition.specs.Propositional.Formula.{f_true, f_false, f_symbol, f_not, f_and, f_or, f_imp, f_iff}
 use Rattle.tableau_definition.proofs.Says.{in_list-sound}
 
@@ -345,6 +345,7 @@ module _ (v : Valuation) where
       (joined-told same_truth agreeing same-agrees (iff_ a c) a c refl (connective_value b a) (connective_value b c) (value-told b a p) (value-told b c q))
 
 pub tests_falsifies : TestsFalsifies
-tests_falsifies v facts goal =
-    ((λ h. (all-tests v facts (both-left (all_hold v facts) (negated (value_under v goal)) h), negated-false (value_under v goal) (both-right (all_hold v facts) (negated (value_under v goal)) h))),
-      λ h. both-hold (all_hold v facts) (negated (value_under v goal)) (tests-all v facts h.0) (false-negated (value_under v goal) h.1))
+tests_falsifies v facts goal = (
+  (λ h. (all-tests v facts (both-left (all_hold v facts) (negated (value_under v goal)) h), negated-false (value_under v goal) (both-right (all_hold v facts) (negated (value_under v goal)) h))),
+  λ h. both-hold (all_hold v facts) (negated (value_under v goal)) (tests-all v facts h.0) (false-negated (value_under v goal) h.1),
+)

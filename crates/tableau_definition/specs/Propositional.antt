@@ -8,8 +8,8 @@ use Rattle.tableau_definition.specs.Terms.{first_some}
 use Rattle.tableau_definition.specs.Branches.{Branch, formulas, has, Closing, closing, shuts_first, is_not_of, alone, partner}
 use Rattle.tableau_definition.specs.Values.{Valued, joined, turned, both_true, one_true, same_truth, implied, value}
 use Rattle.tableau_definition.specs.Values.Truth.{Yes, No, Unknown}
-use Rattle.tableau_definition.specs.Ranks.{Side, Step, Result, gives, oldest, plain, split}
-use Rattle.tableau_definition.specs.Search.{first_rule, Open, apply, Next, turn, End, start, search}
+use Rattle.tableau_definition.specs.Ranks.{Side, Step, Result, gives, oldest, split}
+use Rattle.tableau_definition.specs.Search.{first_rule, Open, turn, start, search}
 use Rattle.tableau_definition.specs.Search.End.{Closed, Saturated, Spent}
 use Rattle.tableau_definition.specs.Search.Next.{Goes}
 

@@ -6,7 +6,7 @@ use Rattle.core_expr.specs.Terms.{same}
 use Rattle.tableau_definition.specs.Branches.{Branch}
 use Rattle.tableau_definition.specs.Values.{Truth, opposite, both_true, one_true, same_truth}
 use Rattle.tableau_definition.specs.Values.Truth.{Yes, No, Unknown}
-use Rattle.tableau_definition.specs.Search.{Open, End, search}
+use Rattle.tableau_definition.specs.Search.{End, search}
 use Rattle.tableau_definition.specs.Search.End.{Closed, Saturated, Spent}
 use Rattle.tableau_definition.specs.Propositional.{Formula, Formulas}
 
@@ -132,7 +132,7 @@ first_live rule i (m ∷ ms) =
 
 -- what a turn does with a branch: it closes; no rule applies; an entry adds formulas; an entry splits the branch
 pub data Decision : Type 0 where
-  Closes Stuck : Decision
+  Closes Idle : Decision
   Alone : ℕ → List Tree → Decision
   Splits : ℕ → List Tree → List Tree → Decision
 
@@ -144,7 +144,7 @@ decision ms =
         | Some a ↦ Alone a.place a.answer
         | None ↦ elim (first_live (settled_added ms) 0 ms) [
           | Some a ↦ Alone a.place a.answer
-          | None ↦ elim (first_live split_added 0 ms) [ Some a ↦ Splits a.place a.answer.left a.answer.right | None ↦ Stuck ]
+          | None ↦ elim (first_live split_added 0 ms) [ Some a ↦ Splits a.place a.answer.left a.answer.right | None ↦ Idle ]
         ]
       ]
     ]
@@ -157,11 +157,11 @@ pub data ReducedEnd : Type 0 where
 -- used turns are used, and n are left
 abbrev pub reduced_run : ℕ → ℕ → List (List Marked) → ReducedEnd
 reduced_run n used [] = EndsClosed used
-reduced_run zero used (ms ∷ mss) = elim (decision ms) [ Closes ↦ EndsSpent used | Stuck ↦ EndsSaturated ms used | Alone i fs ↦ EndsSpent used | Splits i fs gs ↦ EndsSpent used ]
+reduced_run zero used (ms ∷ mss) = elim (decision ms) [ Closes ↦ EndsSpent used | Idle ↦ EndsSaturated ms used | Alone i fs ↦ EndsSpent used | Splits i fs gs ↦ EndsSpent used ]
 reduced_run (suc n) used (ms ∷ mss) =
     elim (decision ms) [
       | Closes ↦ reduced_run n (suc used) mss
-      | Stuck ↦ EndsSaturated ms used
+      | Idle ↦ EndsSaturated ms used
       | Alone i fs ↦ reduced_run n (suc used) (after_rule ms i fs ∷ mss)
       | Splits i fs gs ↦ reduced_run n (suc used) (after_rule ms i fs ∷ after_rule ms i gs ∷ mss)
     ]

@@ -5,7 +5,8 @@ mod laws;
 mod propositional;
 
 pub use laws::{closed_derives, closed_has_tree, tree_derives, tree_refutes};
-pub use propositional::{closed_is_valid, 
-    only_connective_closings, only_connective_rules, only_connective_values, saturated_falsifies, starts_propositional,
-    stays_propositional, tests_formulas,
+pub use propositional::{
+    closed_is_valid, only_connective_closings, only_connective_rules, only_connective_values,
+    saturated_falsifies, search_is_reduced, starts_propositional, stays_propositional,
+    tests_falsifies, tests_formulas, turns_suffice,
 };

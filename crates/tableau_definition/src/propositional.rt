@@ -1,6 +1,7 @@
 //! The search on propositional obligations: laws of its definition.
 
 ghost use Rattle.tableau_definition.specs.Propositional.{OnlyConnectiveRules, OnlyConnectiveClosings, OnlyConnectiveValues, TestsFormulas, StartsPropositional, StaysPropositional, TestsFalsifies, SaturatedFalsifies, ClosedIsValid, TurnsSuffice};
+ghost use Rattle.tableau_definition.specs.Reduced.{SearchIsReduced};
 
 /// The test of propositional formulas says what it tests.
 #[tactic(auto, using(crate::proofs::Connectives::tests))]
@@ -61,4 +62,11 @@ pub fn closed_is_valid()
 #[tactic(auto, using(crate::proofs::Enough::turns_suffice))]
 pub fn turns_suffice()
     ensures { TurnsSuffice }
+{}
+
+/// On a propositional obligation the search without dropping ends as the reduced search does, which keeps no counts, needs, grounds and
+/// paths.
+#[tactic(auto, using(crate::proofs::Reducing::search_is_reduced))]
+pub fn search_is_reduced()
+    ensures { SearchIsReduced }
 {}
