@@ -144,19 +144,15 @@ abbrev enough : ℕ → ℕ
 enough zero = 1
 enough (suc n) = suc (enough n + enough n)
 
+enough-some : (n : ℕ) → 0 < enough n
+enough-some zero = omega arith
+enough-some (suc n) = omega arith
+
 enough-grows : (n m : ℕ) → m ≤ n → enough m ≤ enough n
 enough-grows zero zero h = omega arith
 enough-grows zero (suc m) h = absurd (omega arith)
 enough-grows (suc n) zero h = omega (arith, enough-some n)
-  where
-    enough-some : (n : ℕ) → 0 < enough n
-    enough-some zero = omega arith
-    enough-some (suc n) = omega arith
 enough-grows (suc n) (suc m) h = omega (arith, enough-grows n m (omega arith))
-
-enough-some : (n : ℕ) → 0 < enough n
-enough-some zero = omega arith
-enough-some (suc n) = omega arith
 
 enough-power : (n : ℕ) → suc (enough n) ≡ 2 ^ suc n
 enough-power zero = refl

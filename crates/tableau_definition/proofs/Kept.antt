@@ -8,7 +8,7 @@ use Rattle.tableau_definition.specs.Search.{first_rule, Open, Turning, Next, uni
 use Rattle.tableau_definition.specs.Search.End.{Closed, Saturated, Spent}
 use Rattle.tableau_definition.specs.Search.Mark.{Left, Waiting, Needed}
 use Rattle.tableau_definition.specs.Search.Next.{Stuck, Goes}
-use Rattle.tableau_definition.specs.Propositional.{Formula, Formulas, connective_plain, all_true, first_false, settle_between, connective_settle, EachOpen, OpenFormulas, StartsPropositional, StaysPropositional}
+use Rattle.tableau_definition.specs.Propositional.{Formula, Formulas, connective_plain, all_true, first_false, settle_between, connective_settle, EachOpen, OpenFormulas, OnlyConnectiveRanks, StartsPropositional, StaysPropositional}
 use Rattle.tableau_definition.specs.Propositional.Formula.{f_true, f_false, f_symbol, f_not, f_and, f_or, f_imp, f_iff}
 use Rattle.tableau_definition.proofs.Connectives.{or_else, rules_left, Formulas-append, SidesFormulas, StepFormulas, split-formulas}
 
@@ -68,6 +68,25 @@ by-rank w b r p h =
     elim (one-of (oldest 1 connective_plain 0 b) (oldest 5 (connective_settle b) 0 b) (oldest 7 split 0 b) r (sym (rules_left w b p) ∙ h)) [
       | inl k ↦ inl (chosen 1 connective_plain b r k)
       | inr q ↦ elim q [ inl k ↦ inr (inl (chosen 5 (connective_settle b) b r k)) | inr k ↦ inr (inr (chosen 7 split b r k)) ]
+    ]
+
+-- a result has the rank that it was looked for under
+rank-of : (rank : ℕ) (rule : Tree → Option Step) (i : ℕ) (b : Branch) (r : Result) → oldest rank rule i b ≡ Some r → r.rank ≡ rank
+rank-of rank rule i [] r h = cc
+rank-of rank rule i (e ∷ b) r h = go e.live (rule e.formula) (rank-of rank rule (suc i) b r) h
+  where
+    go : (l : Bool) (o : Option Step) → (oldest rank rule (suc i) b ≡ Some r → r.rank ≡ rank)
+        → elim l [ true ↦ elim o [ Some s ↦ Some (record { rank = rank; entry = i; step = s }) | None ↦ oldest rank rule (suc i) b ] | false ↦ oldest rank rule (suc i) b ] ≡ Some r
+        → r.rank ≡ rank
+    go false o ih h = ih h
+    go true None ih h = ih h
+    go true (Some s) ih h = sym (ap (λ (x : Option Result). (result_or r x).rank) h)
+
+pub ranks : OnlyConnectiveRanks
+ranks w b r p h =
+    elim (one-of (oldest 1 connective_plain 0 b) (oldest 5 (connective_settle b) 0 b) (oldest 7 split 0 b) r (sym (rules_left w b p) ∙ h)) [
+      | inl k ↦ inl (rank-of 1 connective_plain 0 b r k)
+      | inr q ↦ elim q [ inl k ↦ inr (inl (rank-of 5 (connective_settle b) 0 b r k)) | inr k ↦ inr (inr (rank-of 7 split 0 b r k)) ]
     ]
 
 -- what the rules add are formulas

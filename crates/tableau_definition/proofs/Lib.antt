@@ -23,3 +23,4 @@ pub mod Saturates
 pub mod Refutes
 pub mod Enough
 pub mod Reducing
+pub mod Decides

@@ -27,7 +27,7 @@ use Rattle.tableau_definition.proofs.Kept.{by-rank, chosen-formula, starts, resu
 use Rattle.tableau_definition.proofs.Saturates.{shut-none, pair-none, has-complete}
 
 -- branches
-stands-has : (b : Branch) (f : Tree) → stands (marked b) f ≡ has b f
+pub stands-has : (b : Branch) (f : Tree) → stands (marked b) f ≡ has b f
 stands-has [] f = refl
 stands-has (e ∷ b) f = ap (λ x. elim (same e.formula f) [ true ↦ true | false ↦ x ]) (stands-has b f)
 

@@ -21,7 +21,7 @@ use Rattle.tableau_definition.proofs.Connectives.{or_else, closings_left, Formul
 use Rattle.tableau_definition.proofs.Kept.{Chosen, by-rank, chosen-formula, rule-formulas, formulas-add_all, formulas-used}
 use Rattle.tableau_definition.proofs.Truths.{false-negated, AllHold-has, AllHold-append, AllHold-split, SomeHold, Forward, plain-forward, split-forward, Agrees, known, value-told}
 
-formula-closed : (f : Tree) → Formula f → IsClosed f
+pub formula-closed : (f : Tree) → Formula f → IsClosed f
 formula-closed _ f_true = tt
 formula-closed _ f_false = tt
 formula-closed _ (f_symbol s) = tt
@@ -31,7 +31,7 @@ formula-closed _ (f_or {a} {b} p q) = (formula-closed a p, (formula-closed b q, 
 formula-closed _ (f_imp {a} {b} p q) = (formula-closed a p, (formula-closed b q, tt))
 formula-closed _ (f_iff {a} {b} p q) = (formula-closed a p, (formula-closed b q, tt))
 
-formulas-closed : (fs : List Tree) → Formulas fs → AllClosed fs
+pub formulas-closed : (fs : List Tree) → Formulas fs → AllClosed fs
 formulas-closed [] h = tt
 formulas-closed (f ∷ fs) h = (formula-closed f h.0, formulas-closed fs h.1)
 

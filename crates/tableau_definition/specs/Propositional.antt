@@ -1,6 +1,8 @@
 -- Propositional formulas, and the search where a branch has no others.
-use Rattle.std.specs.Prelude.{◌≡◌, ◌↔◌, ◌≤◌, ◌+◌, ◌^◌, ℕ, suc, Bool, true, false, Option, Some, None, List, [], ◌∷◌, ◌++◌}
+use Rattle.std.specs.Prelude.{◌⊎◌, ◌<◌, zero, ◌≡◌, ◌↔◌, ◌≤◌, ◌+◌, ◌^◌, ℕ, suc, Bool, true, false, Option, Some, None, List, [], ◌∷◌, ◌++◌}
+use Rattle.std.proofs.Common.{get_or}
 use Rattle.core_expr.specs.declared.head.Sym.{Sym}
+use Rattle.core_expr.specs.declared.head.SymKind.TheVariants.{Canon}
 use Rattle.core_expr.specs.Tree.{Tree, true_, false_, not_, and_, or_, imp_, iff_}
 use Rattle.core_expr.specs.Tree.Tree.{app}
 use Rattle.core_expr.specs.Tree.Parts.{end}
@@ -181,6 +183,37 @@ falsifies v facts goal = both (all_hold v facts) (negated (value_under v goal))
 abbrev pub valuation_of : Branch → Valuation
 valuation_of b s = has b (app s end)
 
+-- the symbol of a canonical form with this number, without arguments
+abbrev pub numbered : ℕ → Sym
+numbered i = record { kind = Canon; number = i; arity = 0 }
+
+-- the valuation that gives the i-th value to the i-th symbol of a canonical form
+abbrev pub by_number : List Bool → Valuation
+by_number values s = get_or values s.number false
+
+-- the values of n symbols of a canonical form, from the i-th on
+abbrev pub values_from : ℕ → ℕ → Valuation → List Bool
+values_from i zero v = []
+values_from i (suc n) v = v (numbered i) ∷ values_from (suc i) n v
+
+-- the values of the first n symbols of a canonical form
+abbrev pub first_values : ℕ → Valuation → List Bool
+first_values n v = values_from 0 n v
+
+-- the symbols without arguments are among the first n of a canonical form
+abbrev pub IsNumbered : ℕ → Tree → Type 0
+IsNumbered n (app s end) = (s ≡ numbered s.number) × (s.number < n)
+IsNumbered n (not_ a) = IsNumbered n a
+IsNumbered n (and_ a b) = IsNumbered n a × IsNumbered n b
+IsNumbered n (or_ a b) = IsNumbered n a × IsNumbered n b
+IsNumbered n (imp_ a b) = IsNumbered n a × IsNumbered n b
+IsNumbered n (iff_ a b) = IsNumbered n a × IsNumbered n b
+IsNumbered n _ = Unit {0}
+
+abbrev pub AreNumbered : ℕ → List Tree → Type 0
+AreNumbered n [] = Unit {0}
+AreNumbered n (f ∷ fs) = IsNumbered n f × AreNumbered n fs
+
 -- the number of nodes with a connective on top
 abbrev pub connectives : Tree → ℕ
 connectives (not_ a) = suc (connectives a)
@@ -201,6 +234,13 @@ TestsFormulas = (fs : List Tree) → (are_propositional fs ≡ true) ↔ Formula
 -- no rank but plain, settle and split applies
 abbrev pub OnlyConnectiveRules : Type 0
 OnlyConnectiveRules = (w : Tree) (b : Branch) → Formulas (formulas b) → first_rule w b ≡ connective_rule b
+
+abbrev pub OnlyConnectiveRanks : Type 0
+OnlyConnectiveRanks =
+    (w : Tree) (b : Branch) (r : Result)
+    → Formulas (formulas b)
+    → first_rule w b ≡ Some r
+    → (r.rank ≡ 1) ⊎ ((r.rank ≡ 5) ⊎ (r.rank ≡ 7))
 
 -- no closing but the first three comes
 abbrev pub OnlyConnectiveClosings : Type 0
@@ -251,3 +291,22 @@ TurnsSuffice =
     → 2 ^ (all_connectives facts goal + 1) ≤ limit
     → search drops symbols facts goal limit ≡ Spent used
     → ⊥
+
+-- so with so many turns the search ends closed exactly where no valuation falsifies
+abbrev pub DecidesPropositional : Type 0
+DecidesPropositional =
+    (drops : Bool) (symbols : ℕ) (facts : List Tree) (goal : Tree) (limit : ℕ)
+    → Formulas facts
+    → Formula goal
+    → 2 ^ (all_connectives facts goal + 1) ≤ limit
+    → ((used : ℕ) × (search drops symbols facts goal limit ≡ Closed used)) ↔ ((v : Valuation) → Falsifies v facts goal → ⊥)
+
+-- a valuation counts by the values of the symbols alone: where they are the first n, their values in a row say as much
+abbrev pub FalsifiesByNumber : Type 0
+FalsifiesByNumber =
+    (n : ℕ) (v : Valuation) (facts : List Tree) (goal : Tree)
+    → Formulas facts
+    → Formula goal
+    → AreNumbered n facts
+    → IsNumbered n goal
+    → Falsifies (by_number (first_values n v)) facts goal ↔ Falsifies v facts goal

@@ -1,14 +1,17 @@
 -- The search without dropping, on propositional formulas, reduced to what steers it: entries without counts and needs, values without
 -- grounds, no paths.
-use Rattle.std.specs.Prelude.{◌≡◌, ℕ, zero, suc, Bool, true, false, Option, Some, None, List, [], ◌∷◌, ◌++◌}
+use Rattle.std.specs.Prelude.{◌≡◌, ◌≤◌, ◌+◌, ◌^◌, ℕ, zero, suc, Bool, true, false, Option, Some, None, List, [], ◌∷◌, ◌++◌}
 use Rattle.core_expr.specs.Tree.{Tree, true_, false_, not_, and_, or_, imp_, iff_}
+use Rattle.core_expr.specs.Tree.Tree.{app}
+use Rattle.core_expr.specs.Tree.Parts.{end}
 use Rattle.core_expr.specs.Terms.{same}
 use Rattle.tableau_definition.specs.Branches.{Branch}
 use Rattle.tableau_definition.specs.Values.{Truth, opposite, both_true, one_true, same_truth}
 use Rattle.tableau_definition.specs.Values.Truth.{Yes, No, Unknown}
 use Rattle.tableau_definition.specs.Search.{End, search}
 use Rattle.tableau_definition.specs.Search.End.{Closed, Saturated, Spent}
-use Rattle.tableau_definition.specs.Propositional.{Formula, Formulas}
+use Rattle.tableau_definition.specs.Propositional.{Formula, Formulas, Valuation, Falsifies, all_connectives}
+use Rattle.seq_calculus.specs.Calculus.{Der}
 
 -- a formula on a branch, live or dead
 pub record Marked : Type 0 where
@@ -182,3 +185,45 @@ SearchIsReduced =
     → Formulas facts
     → Formula goal
     → reduced (search false symbols facts goal limit) ≡ reduced_search facts goal limit
+
+-- true of exactly the symbols that stand
+abbrev pub valuation_by : List Marked → Valuation
+valuation_by ms s = stands ms (app s end)
+
+-- What the reduced search says. Closed: there is a derivation.
+abbrev pub ReducedClosedDerives : Type 0
+ReducedClosedDerives =
+    (facts : List Tree) (goal : Tree) (limit used : ℕ)
+    → Formulas facts
+    → Formula goal
+    → reduced_search facts goal limit ≡ EndsClosed used
+    → Der facts (goal ∷ [])
+
+-- closed: no valuation falsifies
+abbrev pub ReducedClosedIsValid : Type 0
+ReducedClosedIsValid =
+    (facts : List Tree) (goal : Tree) (limit used : ℕ) (v : Valuation)
+    → Formulas facts
+    → Formula goal
+    → reduced_search facts goal limit ≡ EndsClosed used
+    → Falsifies v facts goal
+    → ⊥
+
+-- saturated: the branch's valuation falsifies
+abbrev pub ReducedSaturatedFalsifies : Type 0
+ReducedSaturatedFalsifies =
+    (facts : List Tree) (goal : Tree) (limit used : ℕ) (ms : List Marked)
+    → Formulas facts
+    → Formula goal
+    → reduced_search facts goal limit ≡ EndsSaturated ms used
+    → Falsifies (valuation_by ms) facts goal
+
+-- spent: there were too few turns
+abbrev pub ReducedTurnsSuffice : Type 0
+ReducedTurnsSuffice =
+    (facts : List Tree) (goal : Tree) (limit used : ℕ)
+    → Formulas facts
+    → Formula goal
+    → 2 ^ (all_connectives facts goal + 1) ≤ limit
+    → reduced_search facts goal limit ≡ EndsSpent used
+    → ⊥
