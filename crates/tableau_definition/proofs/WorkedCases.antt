@@ -276,7 +276,7 @@ spare_instance : trace false 1 ((all_ (ex_ (binary 0 (bound 1) (bound 0)))) ∷ 
 unfolding trace
 spare_instance = refl
 
--- \A x : \E y : R(x, y), ~\E x : \A y : R(x, y). Turns 1 and 2, spare, the oldest first: \E y : R(w, y) and ~\A y : R(w, y). Turn 3, choice case 0: R(w, c). Turn 4, choice case 1: ~R(w, d). No rule applies.
+-- \A x : \E y : R(x, y), ~\E x : \A y : R(x, y). Turn 1, spare on the older: \E y : R(w, y). Turn 2, choice case 0: R(w, c). Turn 3, spare: ~\A y : R(w, y). Turn 4, choice case 1: ~R(w, d). No rule applies.
 spare_instances_by_age : trace false 1 ((all_ (ex_ (binary 0 (bound 1) (bound 0)))) ∷ []) (ex_ (all_ (binary 0 (bound 1) (bound 0)))) 100 ≡ 11000 ∷ 6000 ∷ 11000 ∷ 6001 ∷ 88888 ∷ []
 unfolding trace
 spare_instances_by_age = refl
@@ -292,7 +292,7 @@ needed_split_keeps_its_other_side : trace true 3 ((iff_ (constant 0) (constant 1
 unfolding trace
 needed_split_keeps_its_other_side = refl
 
--- A \/ B, C => C denied below it, with dropping: A \/ B, ~(D <=> D). Turn 1, split: A. Turn 2, split: D, ~D. Turn 3: they close, and need the second split alone: its other side waits. Turn 4: that closes, and the first split is not needed: B is dropped.
+-- A \/ B, ~(D <=> D), with dropping. Turn 1, split: A. Turn 2, split: D, ~D. Turn 3: they close, and need the second split alone: its other side waits. Turn 4: that closes, and the first split is not needed: B is dropped.
 unused_split_is_dropped : trace true 3 ((or_ (constant 0) (constant 1)) ∷ []) (iff_ (constant 2) (constant 2)) 100 ≡ 7000 ∷ 7004 ∷ 2 ∷ 2 ∷ 77777 ∷ []
 unfolding trace
 unused_split_is_dropped = refl
