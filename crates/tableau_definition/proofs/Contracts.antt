@@ -4,11 +4,12 @@ use Rattle.std.proofs.Common.{sym, subst}
 use Rattle.core_expr.specs.Tree.{Tree}
 use Rattle.tableau_definition.specs.Search.{search}
 use Rattle.tableau_definition.specs.Search.End.{Closed}
-use Rattle.tableau_definition.specs.Laws.{ClosedDerives, ClosedHasTree, TreeRefutes, TreeDerives}
+use Rattle.tableau_definition.specs.Laws.{ClosedDerives, ClosedHasTree, TreeRefutes, TreeDerives, AtomsHaveRoom}
 use Rattle.tableau_definition.proofs.Sound.{IsClosedEnd, search-sound}
 use Rattle.tableau_definition.proofs.Used.{search2-sound}
 use Rattle.tableau_definition.proofs.Turned.{closed-uses, turns-sound}
 use Rattle.tableau_definition.proofs.Treed.{search-tree}
+use Rattle.tableau_definition.proofs.Rooms.{signed-room}
 use Rattle.tableau_definition.proofs.Grown.{search-tree1}
 
 ended : (drops : Bool) (symbols : ℕ) (facts : List Tree) (goal : Tree) (limit k : ℕ) → search drops symbols facts goal limit ≡ Closed k → IsClosedEnd (search drops symbols facts goal limit)
@@ -27,3 +28,6 @@ tree_refutes w b t cw cb h = closed-uses w cw b t cb h
 
 pub tree_derives : TreeDerives
 tree_derives symbols facts goal t cf cg h = turns-sound symbols facts goal t cf cg h
+
+pub atoms_have_room : AtomsHaveRoom
+atoms_have_room k room u r = signed-room k room u r

@@ -17,3 +17,4 @@ pub mod Turned
 pub mod Treed
 pub mod Grown
 pub mod Contracts
+pub mod Rooms

@@ -1,8 +1,12 @@
 -- What is proved of the written search. Each statement is the contract of a function of src/laws.rt.
-use Rattle.std.specs.Prelude.{◌≡◌, ℕ, Bool, List, [], ◌∷◌, ◌++◌}
+use Rattle.std.specs.Prelude.{◌≡◌, ℕ, ◌*◌, ◌≤◌, Bool, List, [], ◌∷◌, ◌++◌}
+use Rattle.core_expr.specs.declared.head.SymKind.{SymKind}
 use Rattle.core_expr.specs.Tree.{Tree, not_}
 use Rattle.seq_calculus.specs.Calculus.{HasAll, IsClosed, AllClosed, Der}
 use Rattle.tableau_definition.specs.Branches.{Branch, formulas, add_all}
+use Rattle.core_expr.specs.Put.{inst}
+use Rattle.core_expr.specs.Terms.{nodes}
+use Rattle.tableau_definition.specs.Instances.{meta, Universal, atoms, signed_atoms}
 use Rattle.tableau_definition.specs.Search.{spare, search}
 use Rattle.tableau_definition.specs.Search.End.{Closed}
 use Rattle.tableau_definition.specs.Turns.{Turns, used_by, IsClosedFor}
@@ -28,3 +32,7 @@ TreeRefutes = (w : Tree) (b : Branch) (t : Turns) → IsClosed w → AllClosed (
 -- a tree that is closed for the start branch gives a derivation of the goal from the facts
 abbrev pub TreeDerives : Type 0
 TreeDerives = (symbols : ℕ) (facts : List Tree) (goal : Tree) (t : Turns) → AllClosed facts → IsClosed goal → IsClosedFor (spare symbols) (start_branch facts goal) t → Der facts (goal ∷ [])
+
+-- with room for four steps for each node of the body or more, the atoms of a universal are its signed atoms
+abbrev pub AtomsHaveRoom : Type 0
+AtomsHaveRoom = (k : SymKind) (room : ℕ) (u : Universal) → 4 * nodes u.body ≤ room → atoms k room 1 u.holds (inst u.body (meta k 0)) ≡ signed_atoms k u

@@ -1,5 +1,5 @@
 //! The laws of the written search. The functions do nothing: their contracts are the laws.
-ghost use Rattle.tableau_definition.specs.Laws.{ClosedDerives, ClosedHasTree, TreeRefutes, TreeDerives};
+ghost use Rattle.tableau_definition.specs.Laws.{ClosedDerives, ClosedHasTree, TreeRefutes, TreeDerives, AtomsHaveRoom};
 
 /// Where the search ends closed, in either edition, the goal has a derivation from the facts.
 #[tactic(auto, using(crate::proofs::Contracts::closed_derives))]
@@ -23,4 +23,10 @@ pub fn tree_refutes()
 #[tactic(auto, using(crate::proofs::Contracts::tree_derives))]
 pub fn tree_derives()
     ensures { TreeDerives }
+{}
+
+/// Room for four steps for each node of a universal's body is enough to find its signed atoms.
+#[tactic(auto, using(crate::proofs::Contracts::atoms_have_room))]
+pub fn atoms_have_room()
+    ensures { AtomsHaveRoom }
 {}

@@ -3,4 +3,4 @@
 
 mod laws;
 
-pub use laws::{closed_derives, closed_has_tree, tree_derives, tree_refutes};
+pub use laws::{atoms_have_room, closed_derives, closed_has_tree, tree_derives, tree_refutes};
