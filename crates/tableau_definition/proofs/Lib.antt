@@ -18,3 +18,4 @@ pub mod Treed
 pub mod Grown
 pub mod Contracts
 pub mod Rooms
+pub mod Unifier

@@ -5,4 +5,5 @@ pub mod Ranks
 pub mod Instances
 pub mod Search
 pub mod Turns
+pub mod Unifiers
 pub mod Laws

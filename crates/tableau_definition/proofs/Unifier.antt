@@ -1,0 +1,405 @@
+-- The unifier's laws: what it finds unifies, every unifier goes through it, and it finds one where there is one.
+use Rattle.std.specs.Prelude.{◌≡◌, ℕ, zero, suc, ◌+◌, ◌≤◌, ◌<◌, Bool, true, false, nat_lt, nat_eq, Option, Some, None, List, [], ◌∷◌, ◌++◌, ◌⊎◌, length}
+use Rattle.std.proofs.lemmas.Bool.Decides.{nat_tests}
+use Rattle.std.proofs.Common.{refl, ap, sym, ◌∙◌, arith, subst, inl, inr}
+use Rattle.core_expr.specs.declared.head.Sym.{Sym}
+use Rattle.core_expr.specs.declared.head.Head.{Head}
+use Rattle.core_expr.specs.declared.head.Head.TheVariants.{True}
+use Rattle.core_expr.specs.declared.head.Binder.{Binder}
+use Rattle.core_expr.specs.declared.head.Binder.TheVariants.{All}
+use Rattle.core_expr.specs.Tree.{Tree, Parts}
+use Rattle.core_expr.specs.Tree.Tree.{bound, app, node, bind}
+use Rattle.core_expr.specs.Tree.Parts.{end, part}
+use Rattle.core_expr.specs.Put.{IsScoped, AreScoped}
+use Rattle.core_expr.specs.Terms.{head_code, binder_code, lists_equal, same_sym, same, sames, nodes, nodes_of, is_scoped, are_scoped}
+use Rattle.core_expr.proofs.Equal.{same-true, nat-same, lists-same, scoped-true}
+use Rattle.core_expr.proofs.Laws.{IsScoped-shift, shift_closed}
+use Rattle.seq_calculus.specs.Calculus.{IsClosed}
+use Rattle.tableau_definition.specs.Terms.{occurs, occurs_in, replace, replaces}
+use Rattle.tableau_definition.specs.Instances.{is_meta_kind, is_meta, Difference, clash_of, difference, differences, Binding, put_into, unify, mgu, bound_to}
+use Rattle.tableau_definition.specs.Instances.Difference.{Same, Clash, Bind}
+use Rattle.tableau_definition.specs.Unifiers.{assign, assigns, IsUnifier, answers, StandAlone, AllStandAlone}
+use Rattle.tableau_definition.proofs.Turned.{true_not_false}
+use Rattle.tableau_definition.proofs.Used.{same-self, sym_self}
+
+abbrev symbol_at : Sym → Tree → Sym
+symbol_at f (app g ps) = g
+symbol_at f _ = f
+
+abbrev head_at : Tree → Head
+head_at (node h ns ps) = h
+head_at _ = True
+
+abbrev binder_at : Tree → Binder
+binder_at (bind b ps e) = b
+binder_at _ = All
+
+sym_same : (f g : Sym) → same_sym f g ≡ true → f ≡ g
+sym_same f g h = ap (symbol_at f) (same-true (app f end) (app g end) (ap (λ x. elim x [ true ↦ true | false ↦ false ]) h))
+
+head_same : (h k : Head) → nat_eq (head_code h) (head_code k) ≡ true → h ≡ k
+head_same h k e = ap head_at (same-true (node h [] end) (node k [] end) (ap (λ x. elim x [ true ↦ true | false ↦ false ]) e))
+
+binder_same : (h k : Binder) → nat_eq (binder_code h) (binder_code k) ≡ true → h ≡ k
+binder_same h k e = ap binder_at (same-true (bind h end (bound 0)) (bind k end (bound 0)) (ap (λ x. elim x [ true ↦ true | false ↦ false ]) e))
+
+-- the first difference is none: the terms are equal
+clash-same : (s t : Tree) → clash_of s t ≡ Same → ⊥
+clash-same s t h = go (is_meta s) (is_meta t) h
+  where
+    go : (x y : Bool) → elim x [ true ↦ Bind s t | false ↦ elim y [ true ↦ Bind t s | false ↦ Clash ] ] ≡ Same → ⊥
+    go true y h = cc
+    go false true h = cc
+    go false false h = cc
+
+abbrev then : Difference → Difference → Difference
+then d e = elim d [ Same ↦ e | Clash ↦ Clash | Bind m t ↦ Bind m t ]
+
+then-same : (d e : Difference) → then d e ≡ Same → (d ≡ Same) × (e ≡ Same)
+then-same Same e h = (refl, h)
+then-same Clash e h = cc
+then-same (Bind m t) e h = cc
+
+mutual
+  difference-same : (s t : Tree) → difference s t ≡ Same → s ≡ t
+  difference-same (bound i) (bound j) h = go (nat_eq i j) refl h
+    where
+      go : (x : Bool) → nat_eq i j ≡ x → elim x [ true ↦ Same | false ↦ Clash ] ≡ Same → bound i ≡ bound j
+      go true e h = ap bound (nat-same i j e)
+      go false e h = cc
+  difference-same (app f ps) (app g qs) h = go (same_sym f g) refl (differences-same ps qs) h
+    where
+      go : (x : Bool) → same_sym f g ≡ x → (differences ps qs ≡ Same → ps ≡ qs) → elim x [ true ↦ differences ps qs | false ↦ clash_of (app f ps) (app g qs) ] ≡ Same → app f ps ≡ app g qs
+      go true e ih h = λ i. app (sym_same f g e i) (ih h i)
+      go false e ih h = absurd (clash-same (app f ps) (app g qs) h)
+  difference-same (node k ns ps) (node l ms qs) h = go (nat_eq (head_code k) (head_code l)) refl (lists_equal ns ms) refl (differences-same ps qs) h
+    where
+      go : (x : Bool) → nat_eq (head_code k) (head_code l) ≡ x → (y : Bool) → lists_equal ns ms ≡ y → (differences ps qs ≡ Same → ps ≡ qs)
+          → elim x [ true ↦ elim y [ true ↦ differences ps qs | false ↦ Clash ] | false ↦ Clash ] ≡ Same → node k ns ps ≡ node l ms qs
+      go true e true q ih h = λ i. node (head_same k l e i) (lists-same ns ms q i) (ih h i)
+      go true e false q ih h = cc
+      go false e y q ih h = cc
+  difference-same (bind k ps d) (bind l qs e) h = go (nat_eq (binder_code k) (binder_code l)) refl (differences-same ps qs) (difference-same d e) h
+    where
+      go : (x : Bool) → nat_eq (binder_code k) (binder_code l) ≡ x → (differences ps qs ≡ Same → ps ≡ qs) → (difference d e ≡ Same → d ≡ e)
+          → elim x [ true ↦ then (differences ps qs) (difference d e) | false ↦ Clash ] ≡ Same → bind k ps d ≡ bind l qs e
+      go true q ih jh h = let p = then-same (differences ps qs) (difference d e) h in λ i. bind (binder_same k l q i) (ih p.0 i) (jh p.1 i)
+      go false q ih jh h = cc
+  difference-same s t h = absurd (clash-same s t h)
+
+  differences-same : (ps qs : Parts) → differences ps qs ≡ Same → ps ≡ qs
+  differences-same end end h = refl
+  differences-same end (part t qs) h = cc
+  differences-same (part s ps) end h = cc
+  differences-same (part s ps) (part t qs) h =
+      let p = then-same (difference s t) (differences ps qs) h in λ i. part (difference-same s t p.0 i) (differences-same ps qs p.1 i)
+
+-- sets of symbols, as lists
+abbrev On : List Sym → Sym → Type 0
+On [] f = ⊥
+On (g ∷ ls) f = (g ≡ f) ⊎ On ls f
+
+abbrev mutual
+  -- the metavariables of the term are in the list
+  Covers : List Sym → Tree → Type 0
+  Covers ls (bound i) = Unit {0}
+  Covers ls (app f end) = is_meta_kind f.kind ≡ true → On ls f
+  Covers ls (app f (part e ps)) = Covers ls e × CoversAll ls ps
+  Covers ls (node h ns ps) = CoversAll ls ps
+  Covers ls (bind b ps e) = CoversAll ls ps × Covers ls e
+
+  CoversAll : List Sym → Parts → Type 0
+  CoversAll ls end = Unit {0}
+  CoversAll ls (part e ps) = Covers ls e × CoversAll ls ps
+
+-- a value of a metavariable
+assign-meta : (v : Sym → Tree) (f : Sym) → is_meta_kind f.kind ≡ true → assign v (app f end) ≡ v f
+assign-meta v f h = at (is_meta_kind f.kind) h
+  where
+    at : (x : Bool) → x ≡ true → elim x [ true ↦ v f | false ↦ app f end ] ≡ v f
+    at true e = refl
+    at false e = absurd (true_not_false (sym e))
+
+-- a metavariable is a symbol without arguments
+meta-form : (t : Tree) → is_meta t ≡ true → (f : Sym) × (t ≡ app f end) × (is_meta_kind f.kind ≡ true)
+meta-form (app f end) h = (f, refl, h)
+meta-form (app f (part e ps)) h = cc
+meta-form (bound i) h = cc
+meta-form (node k ns ps) h = cc
+meta-form (bind b ps e) h = cc
+
+-- what binding m to u means for s and t
+abbrev Binds : Tree → Tree → Tree → Tree → Type 0
+Binds s t m u =
+    (f : Sym) × (m ≡ app f end) × (is_meta_kind f.kind ≡ true) × (u ≡ m → ⊥) × ((v : Sym → Tree) → assign v s ≡ assign v t → v f ≡ assign v u)
+    × ((ls : List Sym) → Covers ls s → Covers ls t → On ls f × Covers ls u) × (StandAlone s → StandAlone t → StandAlone u)
+
+abbrev AllBind : Parts → Parts → Tree → Tree → Type 0
+AllBind ps qs m u =
+    (f : Sym) × (m ≡ app f end) × (is_meta_kind f.kind ≡ true) × (u ≡ m → ⊥) × ((v : Sym → Tree) → assigns v ps ≡ assigns v qs → v f ≡ assign v u)
+    × ((ls : List Sym) → CoversAll ls ps → CoversAll ls qs → On ls f × Covers ls u) × (AllStandAlone ps → AllStandAlone qs → StandAlone u)
+
+left-binds : (f : Sym) (t : Tree) → is_meta_kind f.kind ≡ true → (t ≡ app f end → ⊥) → Binds (app f end) t (app f end) t
+left-binds f t k ne = (f, refl, k, ne, (λ v e. sym (assign-meta v f k) ∙ e), (λ ls c d. (c k, d)), (λ a b. b))
+
+right-binds : (f : Sym) (s : Tree) → is_meta_kind f.kind ≡ true → (s ≡ app f end → ⊥) → Binds s (app f end) (app f end) s
+right-binds f s k ne = (f, refl, k, ne, (λ v e. sym (assign-meta v f k) ∙ sym e), (λ ls c d. (d k, c)), (λ a b. a))
+
+abbrev bound_name : Tree → Difference → Tree
+bound_name x (Bind a b) = a
+bound_name x _ = x
+
+abbrev bound_term : Tree → Difference → Tree
+bound_term x (Bind a b) = b
+bound_term x _ = x
+
+bind-parts : (a b c d : Tree) → Bind a b ≡ Bind c d → (a ≡ c) × (b ≡ d)
+bind-parts a b c d h = (ap (bound_name a) h, ap (bound_term b) h)
+
+clash-binds : (s t m u : Tree) → (s ≡ t → ⊥) → clash_of s t ≡ Bind m u → Binds s t m u
+clash-binds s t m u ne h = go (is_meta s) refl (is_meta t) refl h
+  where
+    on_left : (w : (f : Sym) × (s ≡ app f end) × (is_meta_kind f.kind ≡ true)) → Binds s t s t
+    on_left w = subst (λ x. Binds x t x t) (sym w.1) (left-binds w.0 t w.2 (λ e. ne (w.1 ∙ sym e)))
+
+    on_right : (w : (f : Sym) × (t ≡ app f end) × (is_meta_kind f.kind ≡ true)) → Binds s t t s
+    on_right w = subst (λ x. Binds s x x s) (sym w.1) (right-binds w.0 s w.2 (λ e. ne (e ∙ sym w.1)))
+
+    go : (x : Bool) → is_meta s ≡ x → (y : Bool) → is_meta t ≡ y → elim x [ true ↦ Bind s t | false ↦ elim y [ true ↦ Bind t s | false ↦ Clash ] ] ≡ Bind m u → Binds s t m u
+    go true e y q h = let p = bind-parts s t m u h in subst (λ z. Binds s t z u) p.0 (subst (λ z. Binds s t s z) p.1 (on_left (meta-form s e)))
+    go false e true q h = let p = bind-parts t s m u h in subst (λ z. Binds s t z u) p.0 (subst (λ z. Binds s t t z) p.1 (on_right (meta-form t q)))
+    go false e false q h = cc
+
+then-bind : (d e : Difference) (m u : Tree) → then d e ≡ Bind m u → (d ≡ Bind m u) ⊎ ((d ≡ Same) × (e ≡ Bind m u))
+then-bind Same e m u h = inr (refl, h)
+then-bind Clash e m u h = cc
+then-bind (Bind x y) e m u h = inl h
+
+abbrev arguments_at : Parts → Tree → Parts
+arguments_at x (app g ps) = ps
+arguments_at x (node h ns ps) = ps
+arguments_at x (bind b ps e) = ps
+arguments_at x _ = x
+
+abbrev body_at : Tree → Tree → Tree
+body_at x (bind b ps e) = e
+body_at x _ = x
+
+abbrev numbers_at : Tree → List ℕ
+numbers_at (node h ns ps) = ns
+numbers_at _ = []
+
+abbrev first_of : Tree → Parts → Tree
+first_of x (part e ps) = e
+first_of x end = x
+
+abbrev rest_of : Parts → Parts
+rest_of (part e ps) = ps
+rest_of end = end
+
+mutual
+  difference-binds : (s t m u : Tree) → difference s t ≡ Bind m u → Binds s t m u
+  difference-binds (bound i) (bound j) m u h = go (nat_eq i j) h
+    where
+      go : (x : Bool) → elim x [ true ↦ Same | false ↦ Clash ] ≡ Bind m u → Binds (bound i) (bound j) m u
+      go true h = cc
+      go false h = cc
+  difference-binds (app f ps) (app g qs) m u h = go (same_sym f g) refl (differences-binds ps qs m u) h
+    where
+      other : (x : Bool) → same_sym f g ≡ x → x ≡ false → app f ps ≡ app g qs → ⊥
+      other x e q k = true_not_false (sym (ap (same_sym f) (sym (ap (symbol_at f) k)) ∙ sym_self f) ∙ (e ∙ q))
+
+      inner : (ps qs : Parts) → AllBind ps qs m u → differences ps qs ≡ Bind m u → Binds (app f ps) (app g qs) m u
+      inner end end b h = cc
+      inner end (part t qs) b h = cc
+      inner (part s ps) end b h = cc
+      inner (part s ps) (part t qs) b h = (
+        b.0,
+        b.1,
+        b.2,
+        b.3,
+        (λ v e. b.4 v (ap (arguments_at end) e)),
+        b.5,
+        (λ x y. b.6 (x.1, x.2) (y.1, y.2)),
+      )
+
+      go : (x : Bool) → same_sym f g ≡ x → (differences ps qs ≡ Bind m u → AllBind ps qs m u) → elim x [ true ↦ differences ps qs | false ↦ clash_of (app f ps) (app g qs) ] ≡ Bind m u → Binds (app f ps) (app g qs) m u
+      go true e ih h = inner ps qs (ih h) h
+      go false e ih h = clash-binds (app f ps) (app g qs) m u (other false e refl) h
+  difference-binds (node k ns ps) (node l ms qs) m u h = go (nat_eq (head_code k) (head_code l)) (lists_equal ns ms) (differences-binds ps qs m u) h
+    where
+      go : (x y : Bool) → (differences ps qs ≡ Bind m u → AllBind ps qs m u) → elim x [ true ↦ elim y [ true ↦ differences ps qs | false ↦ Clash ] | false ↦ Clash ] ≡ Bind m u → Binds (node k ns ps) (node l ms qs) m u
+      go true true ih h = let b = ih h in (b.0, b.1, b.2, b.3, (λ v e. b.4 v (ap (arguments_at end) e)), b.5, b.6)
+      go true false ih h = cc
+      go false y ih h = cc
+  difference-binds (bind k ps d) (bind l qs e) m u h = go (nat_eq (binder_code k) (binder_code l)) (differences-binds ps qs m u) (difference-binds d e m u) h
+    where
+      left : AllBind ps qs m u → Binds (bind k ps d) (bind l qs e) m u
+      left b = (b.0, b.1, b.2, b.3, (λ v e. b.4 v (ap (arguments_at end) e)), (λ ls x y. b.5 ls x.0 y.0), (λ x y. b.6 x.0 y.0))
+
+      right : Binds d e m u → Binds (bind k ps d) (bind l qs e) m u
+      right b = (b.0, b.1, b.2, b.3, (λ v q. b.4 v (ap (body_at d) q)), (λ ls x y. b.5 ls x.1 y.1), (λ x y. b.6 x.1 y.1))
+
+      go : (x : Bool) → (differences ps qs ≡ Bind m u → AllBind ps qs m u) → (difference d e ≡ Bind m u → Binds d e m u)
+          → elim x [ true ↦ then (differences ps qs) (difference d e) | false ↦ Clash ] ≡ Bind m u → Binds (bind k ps d) (bind l qs e) m u
+      go true ih jh h = elim (then-bind (differences ps qs) (difference d e) m u h) [ inl p ↦ left (ih p) | inr p ↦ right (jh p.1) ]
+      go false ih jh h = cc
+  difference-binds (bound i) (app g qs) m u h = clash-binds (bound i) (app g qs) m u (λ e. cc) h
+  difference-binds (bound i) (node l ms qs) m u h = clash-binds (bound i) (node l ms qs) m u (λ e. cc) h
+  difference-binds (bound i) (bind l qs e) m u h = clash-binds (bound i) (bind l qs e) m u (λ e. cc) h
+  difference-binds (app f ps) (bound j) m u h = clash-binds (app f ps) (bound j) m u (λ e. cc) h
+  difference-binds (app f ps) (node l ms qs) m u h = clash-binds (app f ps) (node l ms qs) m u (λ e. cc) h
+  difference-binds (app f ps) (bind l qs e) m u h = clash-binds (app f ps) (bind l qs e) m u (λ e. cc) h
+  difference-binds (node k ns ps) (bound j) m u h = clash-binds (node k ns ps) (bound j) m u (λ e. cc) h
+  difference-binds (node k ns ps) (app g qs) m u h = clash-binds (node k ns ps) (app g qs) m u (λ e. cc) h
+  difference-binds (node k ns ps) (bind l qs e) m u h = clash-binds (node k ns ps) (bind l qs e) m u (λ e. cc) h
+  difference-binds (bind k ps d) (bound j) m u h = clash-binds (bind k ps d) (bound j) m u (λ e. cc) h
+  difference-binds (bind k ps d) (app g qs) m u h = clash-binds (bind k ps d) (app g qs) m u (λ e. cc) h
+  difference-binds (bind k ps d) (node l ms qs) m u h = clash-binds (bind k ps d) (node l ms qs) m u (λ e. cc) h
+
+  differences-binds : (ps qs : Parts) (m u : Tree) → differences ps qs ≡ Bind m u → AllBind ps qs m u
+  differences-binds end end m u h = cc
+  differences-binds end (part t qs) m u h = cc
+  differences-binds (part s ps) end m u h = cc
+  differences-binds (part s ps) (part t qs) m u h = go (difference-binds s t m u) (differences-binds ps qs m u) (then-bind (difference s t) (differences ps qs) m u h)
+    where
+      go : (difference s t ≡ Bind m u → Binds s t m u) → (differences ps qs ≡ Bind m u → AllBind ps qs m u) → (difference s t ≡ Bind m u) ⊎ ((difference s t ≡ Same) × (differences ps qs ≡ Bind m u)) → AllBind (part s ps) (part t qs) m u
+      go ih jh (inl p) = let b = ih p in (b.0, b.1, b.2, b.3, (λ v e. b.4 v (ap (first_of s) e)), (λ ls x y. b.5 ls x.0 y.0), (λ x y. b.6 x.0 y.0))
+      go ih jh (inr p) = let b = jh p.1 in (b.0, b.1, b.2, b.3, (λ v e. b.4 v (ap rest_of e)), (λ ls x y. b.5 ls x.1 y.1), (λ x y. b.6 x.1 y.1))
+
+-- the four forms of a term
+abbrev form_of : Tree → ℕ
+form_of (bound i) = 0
+form_of (app f ps) = 1
+form_of (node h ns ps) = 2
+form_of (bind b ps e) = 3
+
+assign-form : (v : Sym → Tree) (t : Tree) → is_meta t ≡ false → form_of (assign v t) ≡ form_of t
+assign-form v (bound i) h = refl
+assign-form v (app f end) h = go (is_meta_kind f.kind) h
+  where
+    go : (x : Bool) → x ≡ false → form_of (elim x [ true ↦ v f | false ↦ app f end ]) ≡ 1
+    go true e = absurd (true_not_false e)
+    go false e = refl
+assign-form v (app f (part e ps)) h = refl
+assign-form v (node k ns ps) h = refl
+assign-form v (bind b ps e) h = refl
+
+-- a symbol without arguments that is no metavariable stands for itself
+assign-alone : (v : Sym → Tree) (f : Sym) → is_meta_kind f.kind ≡ false → assign v (app f end) ≡ app f end
+assign-alone v f h = go (is_meta_kind f.kind) h
+  where
+    go : (x : Bool) → x ≡ false → elim x [ true ↦ v f | false ↦ app f end ] ≡ app f end
+    go true e = absurd (true_not_false e)
+    go false e = refl
+
+clash-neither : (s t : Tree) → clash_of s t ≡ Clash → (is_meta s ≡ false) × (is_meta t ≡ false)
+clash-neither s t h = go (is_meta s) (is_meta t) h
+  where
+    go : (x y : Bool) → elim x [ true ↦ Bind s t | false ↦ elim y [ true ↦ Bind t s | false ↦ Clash ] ] ≡ Clash → (x ≡ false) × (y ≡ false)
+    go true y h = cc
+    go false true h = cc
+    go false false h = (refl, refl)
+
+clash-mixed : (v : Sym → Tree) (s t : Tree) → (form_of s ≡ form_of t → ⊥) → clash_of s t ≡ Clash → assign v s ≡ assign v t → ⊥
+clash-mixed v s t ne h e = let k = clash-neither s t h in ne (sym (assign-form v s k.0) ∙ ap form_of e ∙ assign-form v t k.1)
+
+then-clash : (d e : Difference) → then d e ≡ Clash → (d ≡ Clash) ⊎ ((d ≡ Same) × (e ≡ Clash))
+then-clash Same e h = inr (refl, h)
+then-clash Clash e h = inl refl
+then-clash (Bind x y) e h = cc
+
+abbrev index_at : Tree → ℕ
+index_at (bound i) = i
+index_at _ = 0
+
+nat_self : (n : ℕ) → nat_eq n n ≡ true
+nat_self n = grind (arith, nat_tests)
+
+list_self : (ns : List ℕ) → lists_equal ns ns ≡ true
+list_self [] = refl
+list_self (n ∷ ns) = ap (λ x. elim x [ true ↦ lists_equal ns ns | false ↦ false ]) (nat_self n) ∙ list_self ns
+
+other_numbers : (m n : ℕ) → nat_eq m n ≡ false → m ≡ n → ⊥
+other_numbers m n h e = true_not_false (sym (nat_self n) ∙ subst (λ x. nat_eq x n ≡ false) e h)
+
+other_lists : (ms ns : List ℕ) → lists_equal ms ns ≡ false → ms ≡ ns → ⊥
+other_lists ms ns h e = true_not_false (sym (list_self ns) ∙ subst (λ x. lists_equal x ns ≡ false) e h)
+
+other_symbols : (f g : Sym) → same_sym f g ≡ false → f ≡ g → ⊥
+other_symbols f g h e = true_not_false (sym (sym_self g) ∙ subst (λ x. same_sym x g ≡ false) e h)
+
+none_or_some : (e : Tree) (ps : Parts) → end ≡ part e ps → ⊥
+none_or_some e ps h = cc
+
+-- where the first difference is a clash, no map makes the terms equal
+mutual
+  difference-clash : (v : Sym → Tree) (s t : Tree) → StandAlone s → StandAlone t → difference s t ≡ Clash → assign v s ≡ assign v t → ⊥
+  difference-clash v (bound i) (bound j) a b h e = go (nat_eq i j) refl h
+    where
+      go : (x : Bool) → nat_eq i j ≡ x → elim x [ true ↦ Same | false ↦ Clash ] ≡ Clash → ⊥
+      go true q h = cc
+      go false q h = other_numbers i j q (ap index_at e)
+  difference-clash v (app f end) (app g end) a b h e = go (same_sym f g) refl h
+    where
+      go : (x : Bool) → same_sym f g ≡ x → elim x [ true ↦ Same | false ↦ clash_of (app f end) (app g end) ] ≡ Clash → ⊥
+      go true q h = cc
+      go false q h = let k = clash-neither (app f end) (app g end) h in other_symbols f g q (ap (symbol_at f) (sym (assign-alone v f k.0) ∙ e ∙ assign-alone v g k.1))
+  difference-clash v (app f end) (app g (part t qs)) a b h e = go (same_sym f g) refl h
+    where
+      apart : is_meta_kind f.kind ≡ false → ⊥
+      apart k = none_or_some (assign v t) (assigns v qs) (ap (arguments_at end) (sym (assign-alone v f k) ∙ e))
+
+      go : (x : Bool) → same_sym f g ≡ x → elim x [ true ↦ Clash | false ↦ clash_of (app f end) (app g (part t qs)) ] ≡ Clash → ⊥
+      go true q h = apart (subst (λ x. is_meta_kind x.kind ≡ false) (sym (sym_same f g q)) b.0)
+      go false q h = apart (clash-neither (app f end) (app g (part t qs)) h).0
+  difference-clash v (app f (part s ps)) (app g end) a b h e = go (same_sym f g) refl h
+    where
+      apart : is_meta_kind g.kind ≡ false → ⊥
+      apart k = none_or_some (assign v s) (assigns v ps) (ap (arguments_at end) (sym (assign-alone v g k) ∙ sym e))
+
+      go : (x : Bool) → same_sym f g ≡ x → elim x [ true ↦ Clash | false ↦ clash_of (app f (part s ps)) (app g end) ] ≡ Clash → ⊥
+      go true q h = apart (subst (λ x. is_meta_kind x.kind ≡ false) (sym_same f g q) a.0)
+      go false q h = apart (clash-neither (app f (part s ps)) (app g end) h).1
+  difference-clash v (app f (part s ps)) (app g (part t qs)) a b h e =
+      go (same_sym f g) refl (λ k. differences-clash v (part s ps) (part t qs) (a.1, a.2) (b.1, b.2) k (ap (arguments_at end) e)) h
+    where
+      go : (x : Bool) → same_sym f g ≡ x → (differences (part s ps) (part t qs) ≡ Clash → ⊥) → elim x [ true ↦ differences (part s ps) (part t qs) | false ↦ clash_of (app f (part s ps)) (app g (part t qs)) ] ≡ Clash → ⊥
+      go true q ih h = ih h
+      go false q ih h = other_symbols f g q (ap (symbol_at f) e)
+  difference-clash v (node k ns ps) (node l ms qs) a b h e =
+      go (nat_eq (head_code k) (head_code l)) refl (lists_equal ns ms) refl (λ d. differences-clash v ps qs a b d (ap (arguments_at end) e)) h
+    where
+      go : (x : Bool) → nat_eq (head_code k) (head_code l) ≡ x → (y : Bool) → lists_equal ns ms ≡ y → (differences ps qs ≡ Clash → ⊥) → elim x [ true ↦ elim y [ true ↦ differences ps qs | false ↦ Clash ] | false ↦ Clash ] ≡ Clash → ⊥
+      go true q true r ih h = ih h
+      go true q false r ih h = other_lists ns ms r (ap numbers_at e)
+      go false q y r ih h = other_numbers (head_code k) (head_code l) q (ap (λ x. head_code (head_at x)) e)
+  difference-clash v (bind k ps c) (bind l qs d) a b h e =
+      go (nat_eq (binder_code k) (binder_code l)) refl (λ x. differences-clash v ps qs a.0 b.0 x (ap (arguments_at end) e)) (λ x. difference-clash v c d a.1 b.1 x (ap (body_at (bound 0)) e)) h
+    where
+      go : (x : Bool) → nat_eq (binder_code k) (binder_code l) ≡ x → (differences ps qs ≡ Clash → ⊥) → (difference c d ≡ Clash → ⊥) → elim x [ true ↦ then (differences ps qs) (difference c d) | false ↦ Clash ] ≡ Clash → ⊥
+      go true q ih jh h = elim (then-clash (differences ps qs) (difference c d) h) [ inl p ↦ ih p | inr p ↦ jh p.1 ]
+      go false q ih jh h = other_numbers (binder_code k) (binder_code l) q (ap (λ x. binder_code (binder_at x)) e)
+  difference-clash v (bound i) (app g qs) a b h e = clash-mixed v (bound i) (app g qs) (λ e. cc) h e
+  difference-clash v (bound i) (node l ms qs) a b h e = clash-mixed v (bound i) (node l ms qs) (λ e. cc) h e
+  difference-clash v (bound i) (bind l qs d) a b h e = clash-mixed v (bound i) (bind l qs d) (λ e. cc) h e
+  difference-clash v (app f ps) (bound j) a b h e = clash-mixed v (app f ps) (bound j) (λ e. cc) h e
+  difference-clash v (app f ps) (node l ms qs) a b h e = clash-mixed v (app f ps) (node l ms qs) (λ e. cc) h e
+  difference-clash v (app f ps) (bind l qs d) a b h e = clash-mixed v (app f ps) (bind l qs d) (λ e. cc) h e
+  difference-clash v (node k ns ps) (bound j) a b h e = clash-mixed v (node k ns ps) (bound j) (λ e. cc) h e
+  difference-clash v (node k ns ps) (app g qs) a b h e = clash-mixed v (node k ns ps) (app g qs) (λ e. cc) h e
+  difference-clash v (node k ns ps) (bind l qs d) a b h e = clash-mixed v (node k ns ps) (bind l qs d) (λ e. cc) h e
+  difference-clash v (bind k ps c) (bound j) a b h e = clash-mixed v (bind k ps c) (bound j) (λ e. cc) h e
+  difference-clash v (bind k ps c) (app g qs) a b h e = clash-mixed v (bind k ps c) (app g qs) (λ e. cc) h e
+  difference-clash v (bind k ps c) (node l ms qs) a b h e = clash-mixed v (bind k ps c) (node l ms qs) (λ e. cc) h e
+
+  differences-clash : (v : Sym → Tree) (ps qs : Parts) → AllStandAlone ps → AllStandAlone qs → differences ps qs ≡ Clash → assigns v ps ≡ assigns v qs → ⊥
+  differences-clash v end end a b h e = cc
+  differences-clash v end (part t qs) a b h e = none_or_some (assign v t) (assigns v qs) e
+  differences-clash v (part s ps) end a b h e = none_or_some (assign v s) (assigns v ps) (sym e)
+  differences-clash v (part s ps) (part t qs) a b h e =
+      go (λ x. difference-clash v s t a.0 b.0 x (ap (first_of s) e)) (λ x. differences-clash v ps qs a.1 b.1 x (ap rest_of e)) (then-clash (difference s t) (differences ps qs) h)
+    where
+      go : (difference s t ≡ Clash → ⊥) → (differences ps qs ≡ Clash → ⊥) → (difference s t ≡ Clash) ⊎ ((difference s t ≡ Same) × (differences ps qs ≡ Clash)) → ⊥
+      go ih jh (inl p) = ih p
+      go ih jh (inr p) = jh p.1
