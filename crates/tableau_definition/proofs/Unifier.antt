@@ -403,3 +403,212 @@ mutual
       go : (difference s t ≡ Clash → ⊥) → (differences ps qs ≡ Clash → ⊥) → (difference s t ≡ Clash) ⊎ ((difference s t ≡ Same) × (differences ps qs ≡ Clash)) → ⊥
       go ih jh (inl p) = ih p
       go ih jh (inr p) = jh p.1
+
+abbrev or_itself : Sym → Option Tree → Tree
+or_itself f o = elim o [ None ↦ app f end | Some t ↦ t ]
+
+abbrev either_one : Bool → Option Tree → Option Tree → Option Tree
+either_one x a b = elim x [ true ↦ a | false ↦ b ]
+
+abbrev either_term : Bool → Tree → Tree → Tree
+either_term x a b = elim x [ true ↦ a | false ↦ b ]
+
+-- putting a term in for a metavariable changes nothing for a map that gives both the same value
+module _ (f : Sym) (kf : is_meta_kind f.kind ≡ true) (u : Tree) where
+  never_applied : (g : Sym) (e : Tree) (ps : Parts) → same (app f end) (app g (part e ps)) ≡ false
+  never_applied g e ps = go (same_sym f g)
+    where
+      go : (x : Bool) → elim x [ true ↦ false | false ↦ false ] ≡ false
+      go true = refl
+      go false = refl
+
+  replace-applied : (g : Sym) (e : Tree) (ps : Parts) → replace (app f end) u (app g (part e ps)) ≡ app g (part (replace (app f end) u e) (replaces (app f end) u ps))
+  replace-applied g e ps = go (same (app f end) (app g (part e ps))) (never_applied g e ps)
+    where
+      go : (x : Bool) → x ≡ false → elim x [ true ↦ u | false ↦ app g (part (replace (app f end) u e) (replaces (app f end) u ps)) ] ≡ app g (part (replace (app f end) u e) (replaces (app f end) u ps))
+      go true e = absurd (true_not_false e)
+      go false e = refl
+
+  replace-other : (g : Sym) → same (app f end) (app g end) ≡ false → replace (app f end) u (app g end) ≡ app g end
+  replace-other g h = go (same (app f end) (app g end)) h
+    where
+      go : (x : Bool) → x ≡ false → elim x [ true ↦ u | false ↦ app g end ] ≡ app g end
+      go true e = absurd (true_not_false e)
+      go false e = refl
+
+  module _ (v : Sym → Tree) (forced : v f ≡ assign v u) where
+    mutual
+      assign-replace : (e : Tree) → assign v (replace (app f end) u e) ≡ assign v e
+      assign-replace (bound i) = refl
+      assign-replace (app g end) = go (same (app f end) (app g end)) refl
+        where
+          go : (x : Bool) → same (app f end) (app g end) ≡ x → assign v (elim x [ true ↦ u | false ↦ app g end ]) ≡ assign v (app g end)
+          go true q = sym forced ∙ sym (assign-meta v f kf) ∙ ap (assign v) (same-true (app f end) (app g end) q)
+          go false q = refl
+      assign-replace (app g (part e ps)) = ap (assign v) (replace-applied g e ps) ∙ (λ i. app g (part (assign-replace e i) (assigns-replaces ps i)))
+      assign-replace (node k ns ps) = ap (node k ns) (assigns-replaces ps)
+      assign-replace (bind b ps e) = λ i. bind b (assigns-replaces ps i) (assign-replace e i)
+
+      assigns-replaces : (ps : Parts) → assigns v (replaces (app f end) u ps) ≡ assigns v ps
+      assigns-replaces end = refl
+      assigns-replaces (part e ps) = λ i. part (assign-replace e i) (assigns-replaces ps i)
+
+  -- the new map is the old one with the term put in
+  abbrev extended : List Binding → List Binding
+  extended bs = put_into (app f end) u bs ++ record { name = app f end; term = u } ∷ []
+
+  answers-extended : (bs : List Binding) (g : Sym) → answers (extended bs) g ≡ replace (app f end) u (answers bs g)
+  answers-extended [] g = go (same (app f end) (app g end))
+    where
+      go : (x : Bool) → or_itself g (either_one x (Some u) None) ≡ either_term x u (app g end)
+      go true = refl
+      go false = refl
+  answers-extended (b ∷ bs) g = go (same b.name (app g end)) (answers-extended bs g)
+    where
+      go : (x : Bool) → answers (extended bs) g ≡ replace (app f end) u (answers bs g)
+          → or_itself g (either_one x (Some (replace (app f end) u b.term)) (bound_to (app g end) (extended bs))) ≡ replace (app f end) u (or_itself g (either_one x (Some b.term) (bound_to (app g end) bs)))
+      go true ih = refl
+      go false ih = ih
+
+  mutual
+    assign-extended : (bs : List Binding) (e : Tree) → assign (answers (extended bs)) e ≡ replace (app f end) u (assign (answers bs) e)
+    assign-extended bs (bound i) = refl
+    assign-extended bs (app g end) = go (is_meta_kind g.kind) refl
+      where
+        go : (x : Bool) → is_meta_kind g.kind ≡ x → elim x [ true ↦ answers (extended bs) g | false ↦ app g end ] ≡ replace (app f end) u (elim x [ true ↦ answers bs g | false ↦ app g end ])
+        go true q = answers-extended bs g
+        go false q = sym (replace-other g (apart (same (app f end) (app g end)) refl))
+          where
+            apart : (x : Bool) → same (app f end) (app g end) ≡ x → x ≡ false
+            apart true p = absurd (true_not_false (sym kf ∙ ap (λ t. is_meta_kind (symbol_at f t).kind) (same-true (app f end) (app g end) p) ∙ q))
+            apart false p = refl
+    assign-extended bs (app g (part e ps)) = (λ i. app g (part (assign-extended bs e i) (assigns-extended bs ps i))) ∙ sym (replace-applied g (assign (answers bs) e) (assigns (answers bs) ps))
+    assign-extended bs (node k ns ps) = ap (node k ns) (assigns-extended bs ps)
+    assign-extended bs (bind b ps e) = λ i. bind b (assigns-extended bs ps i) (assign-extended bs e i)
+
+    assigns-extended : (bs : List Binding) (ps : Parts) → assigns (answers (extended bs)) ps ≡ replaces (app f end) u (assigns (answers bs) ps)
+    assigns-extended bs end = refl
+    assigns-extended bs (part e ps) = λ i. part (assign-extended bs e i) (assigns-extended bs ps i)
+
+-- closed terms
+widened : (n : ℕ) (u : Tree) → IsScoped 0 u → IsScoped n u
+widened n u h = subst (IsScoped n) (shift_closed 0 0 n u (omega arith) h) (IsScoped-shift 0 0 n n u (omega arith) h)
+
+mutual
+  true-scoped : (n : ℕ) (e : Tree) → IsScoped n e → is_scoped n e ≡ true
+  true-scoped n (bound i) h = var n i h
+    where
+      var : (n i : ℕ) → i < n → nat_lt i n ≡ true
+      var n i h = grind (arith, nat_tests)
+  true-scoped n (app f ps) h = all-true-scoped n ps h
+  true-scoped n (node k ns ps) h = all-true-scoped n ps h
+  true-scoped n (bind b ps e) h = ap (λ x. elim x [ true ↦ is_scoped (suc n) e | false ↦ false ]) (all-true-scoped n ps h.0) ∙ true-scoped (suc n) e h.1
+
+  all-true-scoped : (n : ℕ) (ps : Parts) → AreScoped n ps → are_scoped n ps ≡ true
+  all-true-scoped n end h = refl
+  all-true-scoped n (part e ps) h = ap (λ x. elim x [ true ↦ are_scoped n ps | false ↦ false ]) (true-scoped n e h.0) ∙ all-true-scoped n ps h.1
+
+mutual
+  scoped-back : (v : Sym → Tree) (n : ℕ) (e : Tree) → IsScoped n (assign v e) → IsScoped n e
+  scoped-back v n (bound i) h = h
+  scoped-back v n (app f end) h = tt
+  scoped-back v n (app f (part e ps)) h = (scoped-back v n e h.0, all-scoped-back v n ps h.1)
+  scoped-back v n (node k ns ps) h = all-scoped-back v n ps h
+  scoped-back v n (bind b ps e) h = (all-scoped-back v n ps h.0, scoped-back v (suc n) e h.1)
+
+  all-scoped-back : (v : Sym → Tree) (n : ℕ) (ps : Parts) → AreScoped n (assigns v ps) → AreScoped n ps
+  all-scoped-back v n end h = tt
+  all-scoped-back v n (part e ps) h = (scoped-back v n e h.0, all-scoped-back v n ps h.1)
+
+mutual
+  scoped-replace : (m u : Tree) → IsScoped 0 u → (n : ℕ) (e : Tree) → IsScoped n e → IsScoped n (replace m u e)
+  scoped-replace m u cu n (bound i) h = h
+  scoped-replace m u cu n (app f ps) h = go (same m (app f ps)) (all-scoped-replace m u cu n ps h)
+    where
+      go : (x : Bool) → AreScoped n (replaces m u ps) → IsScoped n (either_term x u (app f (replaces m u ps)))
+      go true k = widened n u cu
+      go false k = k
+  scoped-replace m u cu n (node k ns ps) h = go (same m (node k ns ps)) (all-scoped-replace m u cu n ps h)
+    where
+      go : (x : Bool) → AreScoped n (replaces m u ps) → IsScoped n (either_term x u (node k ns (replaces m u ps)))
+      go true k = widened n u cu
+      go false k = k
+  scoped-replace m u cu n (bind b ps e) h = go (same m (bind b ps e)) (all-scoped-replace m u cu n ps h.0) (scoped-replace m u cu (suc n) e h.1)
+    where
+      go : (x : Bool) → AreScoped n (replaces m u ps) → IsScoped (suc n) (replace m u e) → IsScoped n (either_term x u (bind b (replaces m u ps) (replace m u e)))
+      go true k l = widened n u cu
+      go false k l = (k, l)
+
+  all-scoped-replace : (m u : Tree) → IsScoped 0 u → (n : ℕ) (ps : Parts) → AreScoped n ps → AreScoped n (replaces m u ps)
+  all-scoped-replace m u cu n end h = tt
+  all-scoped-replace m u cu n (part e ps) h = (scoped-replace m u cu n e h.0, all-scoped-replace m u cu n ps h.1)
+
+abbrev TermsClosed : List Binding → Type 0
+TermsClosed [] = Unit {0}
+TermsClosed (b ∷ bs) = IsClosed b.term × TermsClosed bs
+
+closed-extended : (f : Sym) (kf : is_meta_kind f.kind ≡ true) (u : Tree) → IsClosed u → (bs : List Binding) → TermsClosed bs → TermsClosed (extended f kf u bs)
+closed-extended f kf u cu [] h = (cu, tt)
+closed-extended f kf u cu (b ∷ bs) h = (scoped-replace (app f end) u cu 0 b.term h.0, closed-extended f kf u cu bs h.1)
+
+closed-answers : (bs : List Binding) → TermsClosed bs → (g : Sym) → IsClosed (answers bs g)
+closed-answers [] h g = tt
+closed-answers (b ∷ bs) h g = go (same b.name (app g end)) (closed-answers bs h.1 g)
+  where
+    go : (x : Bool) → IsClosed (answers bs g) → IsClosed (or_itself g (either_one x (Some b.term) (bound_to (app g end) bs)))
+    go true k = h.0
+    go false k = k
+
+-- a metavariable that occurs in a term has no larger value than the term, and a smaller one where the term is not itself
+nodes-some : (e : Tree) → 1 ≤ nodes e
+nodes-some (bound i) = omega arith
+nodes-some (app f ps) = omega arith
+nodes-some (node h ns ps) = omega arith
+nodes-some (bind b ps e) = omega arith
+
+or_true : (x y : Bool) → elim x [ true ↦ true | false ↦ y ] ≡ true → (x ≡ true) ⊎ (y ≡ true)
+or_true true y h = inl refl
+or_true false y h = inr h
+
+module _ (f : Sym) (kf : is_meta_kind f.kind ≡ true) (v : Sym → Tree) where
+  at-itself : (e : Tree) → same (app f end) e ≡ true → nodes (v f) ≤ nodes (assign v e)
+  at-itself e h = subst (λ x. nodes (v f) ≤ nodes x) (sym (assign-meta v f kf) ∙ ap (assign v) (same-true (app f end) e h)) (omega arith)
+
+  mutual
+    occurs-small : (e : Tree) → occurs (app f end) e ≡ true → nodes (v f) ≤ nodes (assign v e)
+    occurs-small (bound i) h = cc
+    occurs-small (app g end) h = elim (or_true (same (app f end) (app g end)) false h) [ inl p ↦ at-itself (app g end) p | inr p ↦ absurd (true_not_false (sym p)) ]
+    occurs-small (app g (part e ps)) h = go (or_true (same (app f end) (app g (part e ps))) (occurs_in (app f end) (part e ps)) h) (occurs-in-small (part e ps))
+      where
+        go : (same (app f end) (app g (part e ps)) ≡ true) ⊎ (occurs_in (app f end) (part e ps) ≡ true) → (occurs_in (app f end) (part e ps) ≡ true → nodes (v f) ≤ nodes_of (assigns v (part e ps))) → nodes (v f) ≤ nodes (assign v (app g (part e ps)))
+        go (inl p) ih = at-itself (app g (part e ps)) p
+        go (inr p) ih = omega (arith, ih p)
+    occurs-small (node k ns ps) h = omega (arith, occurs-in-small ps h)
+    occurs-small (bind b ps e) h = go (or_true (occurs_in (app f end) ps) (occurs (app f end) e) h) (occurs-in-small ps) (occurs-small e)
+      where
+        go : (occurs_in (app f end) ps ≡ true) ⊎ (occurs (app f end) e ≡ true) → (occurs_in (app f end) ps ≡ true → nodes (v f) ≤ nodes_of (assigns v ps)) → (occurs (app f end) e ≡ true → nodes (v f) ≤ nodes (assign v e)) → nodes (v f) ≤ suc (nodes_of (assigns v ps) + nodes (assign v e))
+        go (inl p) ih jh = omega (arith, ih p)
+        go (inr p) ih jh = omega (arith, jh p)
+
+    occurs-in-small : (ps : Parts) → occurs_in (app f end) ps ≡ true → nodes (v f) ≤ nodes_of (assigns v ps)
+    occurs-in-small end h = cc
+    occurs-in-small (part e ps) h = go (or_true (occurs (app f end) e) (occurs_in (app f end) ps) h) (occurs-small e) (occurs-in-small ps)
+      where
+        go : (occurs (app f end) e ≡ true) ⊎ (occurs_in (app f end) ps ≡ true) → (occurs (app f end) e ≡ true → nodes (v f) ≤ nodes (assign v e)) → (occurs_in (app f end) ps ≡ true → nodes (v f) ≤ nodes_of (assigns v ps)) → nodes (v f) ≤ nodes (assign v e) + nodes_of (assigns v ps)
+        go (inl p) ih jh = omega (arith, ih p)
+        go (inr p) ih jh = omega (arith, jh p)
+
+  occurs-smaller : (e : Tree) → occurs (app f end) e ≡ true → (e ≡ app f end → ⊥) → nodes (v f) < nodes (assign v e)
+  occurs-smaller (bound i) h ne = cc
+  occurs-smaller (app g end) h ne = elim (or_true (same (app f end) (app g end)) false h) [ inl p ↦ absurd (ne (sym (same-true (app f end) (app g end) p))) | inr p ↦ absurd (true_not_false (sym p)) ]
+  occurs-smaller (app g (part e ps)) h ne = go (or_true (same (app f end) (app g (part e ps))) (occurs_in (app f end) (part e ps)) h)
+    where
+      go : (same (app f end) (app g (part e ps)) ≡ true) ⊎ (occurs_in (app f end) (part e ps) ≡ true) → nodes (v f) < nodes (assign v (app g (part e ps)))
+      go (inl p) = absurd (ne (sym (same-true (app f end) (app g (part e ps)) p)))
+      go (inr p) = omega (arith, occurs-in-small (part e ps) p)
+  occurs-smaller (node k ns ps) h ne = omega (arith, occurs-in-small ps h)
+  occurs-smaller (bind b ps e) h ne = go (or_true (occurs_in (app f end) ps) (occurs (app f end) e) h)
+    where
+      go : (occurs_in (app f end) ps ≡ true) ⊎ (occurs (app f end) e ≡ true) → nodes (v f) < suc (nodes_of (assigns v ps) + nodes (assign v e))
+      go (inl p) = omega (arith, occurs-in-small ps p)
+      go (inr p) = omega (arith, occurs-small e p)
