@@ -612,3 +612,342 @@ module _ (f : Sym) (kf : is_meta_kind f.kind ≡ true) (v : Sym → Tree) where
       go : (occurs_in (app f end) ps ≡ true) ⊎ (occurs (app f end) e ≡ true) → nodes (v f) < suc (nodes_of (assigns v ps) + nodes (assign v e))
       go (inl p) = omega (arith, occurs-in-small ps p)
       go (inr p) = omega (arith, occurs-small e p)
+
+-- a list of symbols without f
+abbrev dropped : Sym → List Sym → List Sym
+dropped f [] = []
+dropped f (g ∷ ls) = elim (same_sym g f) [ true ↦ dropped f ls | false ↦ g ∷ dropped f ls ]
+
+abbrev either_list : Bool → List Sym → List Sym → List Sym
+either_list x a b = elim x [ true ↦ a | false ↦ b ]
+
+dropped-length : (f : Sym) (ls : List Sym) → length (dropped f ls) ≤ length ls
+dropped-length f [] = omega arith
+dropped-length f (g ∷ ls) = go (same_sym g f) (dropped-length f ls)
+  where
+    go : (x : Bool) → length (dropped f ls) ≤ length ls → length (either_list x (dropped f ls) (g ∷ dropped f ls)) ≤ suc (length ls)
+    go true h = omega arith
+    go false h = omega arith
+
+dropped-less : (f : Sym) (ls : List Sym) → On ls f → length (dropped f ls) < length ls
+dropped-less f [] h = absurd h
+dropped-less f (g ∷ ls) h = go (same_sym g f) refl (dropped-length f ls) (dropped-less f ls) h
+  where
+    go : (x : Bool) → same_sym g f ≡ x → length (dropped f ls) ≤ length ls → (On ls f → length (dropped f ls) < length ls) → (g ≡ f) ⊎ On ls f → length (either_list x (dropped f ls) (g ∷ dropped f ls)) < suc (length ls)
+    go true e l ih h = omega arith
+    go false e l ih (inl p) = absurd (other_symbols g f e p)
+    go false e l ih (inr p) = omega (arith, ih p)
+
+On-dropped : (f : Sym) (ls : List Sym) (g : Sym) → On ls g → (g ≡ f → ⊥) → On (dropped f ls) g
+On-dropped f [] g h ne = h
+On-dropped f (k ∷ ls) g h ne = go (same_sym k f) refl (On-dropped f ls g) h
+  where
+    go : (x : Bool) → same_sym k f ≡ x → (On ls g → (g ≡ f → ⊥) → On (dropped f ls) g) → (k ≡ g) ⊎ On ls g → On (either_list x (dropped f ls) (k ∷ dropped f ls)) g
+    go true e ih (inl p) = absurd (ne (sym p ∙ sym_same k f e))
+    go true e ih (inr p) = ih p ne
+    go false e ih (inl p) = inl p
+    go false e ih (inr p) = inr (ih p ne)
+
+or_false : (x y : Bool) → elim x [ true ↦ true | false ↦ y ] ≡ false → (x ≡ false) × (y ≡ false)
+or_false true y h = absurd (true_not_false h)
+or_false false y h = (refl, h)
+
+module _ (f : Sym) (kf : is_meta_kind f.kind ≡ true) (u : Tree) (ls : List Sym) where
+  mutual
+    covers-off : (e : Tree) → Covers ls e → occurs (app f end) e ≡ false → Covers (dropped f ls) e
+    covers-off (bound i) c h = tt
+    covers-off (app g end) c h = λ k. On-dropped f ls g (c k) (λ e. true_not_false (sym (ap (λ x. same (app x end) (app g end)) (sym e) ∙ same-self (app g end)) ∙ (or_false (same (app f end) (app g end)) false h).0))
+    covers-off (app g (part e ps)) c h = let p = or_false (same (app f end) (app g (part e ps))) (occurs_in (app f end) (part e ps)) h in let q = or_false (occurs (app f end) e) (occurs_in (app f end) ps) p.1 in (covers-off e c.0 q.0, all-covers-off ps c.1 q.1)
+    covers-off (node k ns ps) c h = all-covers-off ps c h
+    covers-off (bind b ps e) c h = let p = or_false (occurs_in (app f end) ps) (occurs (app f end) e) h in (all-covers-off ps c.0 p.0, covers-off e c.1 p.1)
+
+    all-covers-off : (ps : Parts) → CoversAll ls ps → occurs_in (app f end) ps ≡ false → CoversAll (dropped f ls) ps
+    all-covers-off end c h = tt
+    all-covers-off (part e ps) c h = let p = or_false (occurs (app f end) e) (occurs_in (app f end) ps) h in (covers-off e c.0 p.0, all-covers-off ps c.1 p.1)
+
+  module _ (cu : Covers (dropped f ls) u) where
+    mutual
+      covers-replace : (e : Tree) → Covers ls e → Covers (dropped f ls) (replace (app f end) u e)
+      covers-replace (bound i) c = tt
+      covers-replace (app g end) c = go (same (app f end) (app g end)) refl
+        where
+          go : (x : Bool) → same (app f end) (app g end) ≡ x → Covers (dropped f ls) (either_term x u (app g end))
+          go true q = cu
+          go false q = λ k. On-dropped f ls g (c k) (λ e. true_not_false (sym (ap (λ x. same (app x end) (app g end)) (sym e) ∙ same-self (app g end)) ∙ q))
+      covers-replace (app g (part e ps)) c = subst (Covers (dropped f ls)) (sym (replace-applied f kf u g e ps)) (covers-replace e c.0, all-covers-replace ps c.1)
+      covers-replace (node k ns ps) c = all-covers-replace ps c
+      covers-replace (bind b ps e) c = (all-covers-replace ps c.0, covers-replace e c.1)
+
+      all-covers-replace : (ps : Parts) → CoversAll ls ps → CoversAll (dropped f ls) (replaces (app f end) u ps)
+      all-covers-replace end c = tt
+      all-covers-replace (part e ps) c = (covers-replace e c.0, all-covers-replace ps c.1)
+
+  module _ (su : StandAlone u) where
+    mutual
+      alone-replace : (e : Tree) → StandAlone e → StandAlone (replace (app f end) u e)
+      alone-replace (bound i) c = tt
+      alone-replace (app g end) c = go (same (app f end) (app g end))
+        where
+          go : (x : Bool) → StandAlone (either_term x u (app g end))
+          go true = su
+          go false = tt
+      alone-replace (app g (part e ps)) c = subst StandAlone (sym (replace-applied f kf u g e ps)) (c.0, alone-replace e c.1, all-alone-replace ps c.2)
+      alone-replace (node k ns ps) c = all-alone-replace ps c
+      alone-replace (bind b ps e) c = (all-alone-replace ps c.0, alone-replace e c.1)
+
+      all-alone-replace : (ps : Parts) → AllStandAlone ps → AllStandAlone (replaces (app f end) u ps)
+      all-alone-replace end c = tt
+      all-alone-replace (part e ps) c = (alone-replace e c.0, all-alone-replace ps c.1)
+
+-- the symbols without arguments in a term, a list that covers it
+abbrev mutual
+  metas : Tree → List Sym
+  metas (bound i) = []
+  metas (app f end) = f ∷ []
+  metas (app f (part e ps)) = metas e ++ metas_of ps
+  metas (node h ns ps) = metas_of ps
+  metas (bind b ps e) = metas_of ps ++ metas e
+
+  metas_of : Parts → List Sym
+  metas_of end = []
+  metas_of (part e ps) = metas e ++ metas_of ps
+
+length_append : (ls ks : List Sym) → length (ls ++ ks) ≡ length ls + length ks
+length_append [] ks = omega arith
+length_append (f ∷ ls) ks = omega (arith, length_append ls ks)
+
+mutual
+  metas-few : (e : Tree) → length (metas e) ≤ nodes e
+  metas-few (bound i) = omega arith
+  metas-few (app f end) = omega arith
+  metas-few (app f (part e ps)) = omega (arith, length_append (metas e) (metas_of ps), metas-few e, metas_of-few ps)
+  metas-few (node h ns ps) = omega (arith, metas_of-few ps)
+  metas-few (bind b ps e) = omega (arith, length_append (metas_of ps) (metas e), metas-few e, metas_of-few ps)
+
+  metas_of-few : (ps : Parts) → length (metas_of ps) ≤ nodes_of ps
+  metas_of-few end = omega arith
+  metas_of-few (part e ps) = omega (arith, length_append (metas e) (metas_of ps), metas-few e, metas_of-few ps)
+
+On-left : (ls ks : List Sym) (f : Sym) → On ls f → On (ls ++ ks) f
+On-left [] ks f h = absurd h
+On-left (g ∷ ls) ks f (inl p) = inl p
+On-left (g ∷ ls) ks f (inr p) = inr (On-left ls ks f p)
+
+On-right : (ls ks : List Sym) (f : Sym) → On ks f → On (ls ++ ks) f
+On-right [] ks f h = h
+On-right (g ∷ ls) ks f h = inr (On-right ls ks f h)
+
+mutual
+  covers-wider : (ls ks : List Sym) → ((f : Sym) → On ls f → On ks f) → (e : Tree) → Covers ls e → Covers ks e
+  covers-wider ls ks w (bound i) c = tt
+  covers-wider ls ks w (app f end) c = λ k. w f (c k)
+  covers-wider ls ks w (app f (part e ps)) c = (covers-wider ls ks w e c.0, all-covers-wider ls ks w ps c.1)
+  covers-wider ls ks w (node h ns ps) c = all-covers-wider ls ks w ps c
+  covers-wider ls ks w (bind b ps e) c = (all-covers-wider ls ks w ps c.0, covers-wider ls ks w e c.1)
+
+  all-covers-wider : (ls ks : List Sym) → ((f : Sym) → On ls f → On ks f) → (ps : Parts) → CoversAll ls ps → CoversAll ks ps
+  all-covers-wider ls ks w end c = tt
+  all-covers-wider ls ks w (part e ps) c = (covers-wider ls ks w e c.0, all-covers-wider ls ks w ps c.1)
+
+mutual
+  covers-metas : (e : Tree) → Covers (metas e) e
+  covers-metas (bound i) = tt
+  covers-metas (app f end) = λ k. inl refl
+  covers-metas (app f (part e ps)) = (covers-wider (metas e) (metas e ++ metas_of ps) (On-left (metas e) (metas_of ps)) e (covers-metas e), all-covers-wider (metas_of ps) (metas e ++ metas_of ps) (On-right (metas e) (metas_of ps)) ps (all-covers-metas ps))
+  covers-metas (node h ns ps) = all-covers-metas ps
+  covers-metas (bind b ps e) = (all-covers-wider (metas_of ps) (metas_of ps ++ metas e) (On-left (metas_of ps) (metas e)) ps (all-covers-metas ps), covers-wider (metas e) (metas_of ps ++ metas e) (On-right (metas_of ps) (metas e)) e (covers-metas e))
+
+  all-covers-metas : (ps : Parts) → CoversAll (metas_of ps) ps
+  all-covers-metas end = tt
+  all-covers-metas (part e ps) = (covers-wider (metas e) (metas e ++ metas_of ps) (On-left (metas e) (metas_of ps)) e (covers-metas e), all-covers-wider (metas_of ps) (metas e ++ metas_of ps) (On-right (metas e) (metas_of ps)) ps (all-covers-metas ps))
+
+abbrev got : List Binding → Option (List Binding) → List Binding
+got x None = x
+got x (Some y) = y
+
+abbrev extend : Tree → Tree → List Binding → List Binding
+extend m u bs = put_into m u bs ++ record { name = m; term = u } ∷ []
+
+-- one round of the unifier, by the first difference and by the tests of the term that is to be bound
+abbrev next_round : ℕ → List Binding → Tree → Tree → Tree → Tree → Bool → Bool → Option (List Binding)
+next_round n bs s t m u x y = elim x [ false ↦ None | true ↦ elim y [ true ↦ None | false ↦ unify n (extend m u bs) (replace m u s) (replace m u t) ] ]
+
+abbrev round : ℕ → List Binding → Tree → Tree → Difference → Option (List Binding)
+round n bs s t d = elim d [ Same ↦ Some bs | Clash ↦ None | Bind m u ↦ next_round n bs s t m u (is_scoped 0 u) (occurs m u) ]
+
+abbrev last_round : List Binding → Difference → Option (List Binding)
+last_round bs d = elim d [ Same ↦ Some bs | Clash ↦ None | Bind m u ↦ None ]
+
+-- the answer unifies
+unify-sound : (n : ℕ) (bs cs : List Binding) (s t s0 t0 : Tree) → TermsClosed bs → s ≡ assign (answers bs) s0 → t ≡ assign (answers bs) t0 → unify n bs s t ≡ Some cs
+    → TermsClosed cs × (assign (answers cs) s0 ≡ assign (answers cs) t0)
+unify-sound zero bs cs s t s0 t0 cb es et h = go (difference s t) refl h
+  where
+    go : (d : Difference) → difference s t ≡ d → last_round bs d ≡ Some cs → TermsClosed cs × (assign (answers cs) s0 ≡ assign (answers cs) t0)
+    go Same e h = subst (λ x. TermsClosed x × (assign (answers x) s0 ≡ assign (answers x) t0)) (ap (got bs) h) (cb, sym es ∙ difference-same s t e ∙ et)
+    go Clash e h = cc
+    go (Bind m u) e h = cc
+unify-sound (suc n) bs cs s t s0 t0 cb es et h = go (λ f kf u cu k. unify-sound n (extended f kf u bs) cs (replace (app f end) u s) (replace (app f end) u t) s0 t0
+    (closed-extended f kf u cu bs cb) (ap (replace (app f end) u) es ∙ sym (assign-extended f kf u bs s0)) (ap (replace (app f end) u) et ∙ sym (assign-extended f kf u bs t0)) k) (difference s t) refl h
+  where
+    result : Type 0
+    result = TermsClosed cs × (assign (answers cs) s0 ≡ assign (answers cs) t0)
+
+    go : ((f : Sym) (kf : is_meta_kind f.kind ≡ true) (u : Tree) → IsClosed u → unify n (extend (app f end) u bs) (replace (app f end) u s) (replace (app f end) u t) ≡ Some cs → TermsClosed cs × (assign (answers cs) s0 ≡ assign (answers cs) t0))
+        → (d : Difference) → difference s t ≡ d → round n bs s t d ≡ Some cs → TermsClosed cs × (assign (answers cs) s0 ≡ assign (answers cs) t0)
+    go ih Same e h = subst (λ x. TermsClosed x × (assign (answers x) s0 ≡ assign (answers x) t0)) (ap (got bs) h) (cb, sym es ∙ difference-same s t e ∙ et)
+    go ih Clash e h = cc
+    go ih (Bind m u) e h = bound_now (difference-binds s t m u e) (is_scoped 0 u) refl (occurs m u) h
+      where
+        bound_now : Binds s t m u → (x : Bool) → is_scoped 0 u ≡ x → (y : Bool) → next_round n bs s t m u x y ≡ Some cs → TermsClosed cs × (assign (answers cs) s0 ≡ assign (answers cs) t0)
+        bound_now b false q y h = cc
+        bound_now b true q true h = cc
+        bound_now b true q false h = ih b.0 b.2 u (scoped-true 0 u q) (subst (λ x. unify n (extend x u bs) (replace x u s) (replace x u t) ≡ Some cs) b.1 h)
+
+-- every unifier goes through the bindings
+abbrev Keeps : (Sym → Tree) → List Binding → Type 0
+Keeps v bs = (g : Sym) → is_meta_kind g.kind ≡ true → assign v (answers bs g) ≡ v g
+
+keeps-extended : (v : Sym → Tree) (f : Sym) (kf : is_meta_kind f.kind ≡ true) (u : Tree) → v f ≡ assign v u → (bs : List Binding) → Keeps v bs → Keeps v (extended f kf u bs)
+keeps-extended v f kf u forced bs k g kg = ap (assign v) (answers-extended f kf u bs g) ∙ assign-replace f kf u v forced (answers bs g) ∙ k g kg
+
+unify-keeps : (v : Sym → Tree) (n : ℕ) (bs cs : List Binding) (s t : Tree) → assign v s ≡ assign v t → Keeps v bs → unify n bs s t ≡ Some cs → Keeps v cs
+unify-keeps v zero bs cs s t e0 kb h = go (difference s t) h
+  where
+    go : (d : Difference) → last_round bs d ≡ Some cs → Keeps v cs
+    go Same h = subst (Keeps v) (ap (got bs) h) kb
+    go Clash h = cc
+    go (Bind m u) h = cc
+unify-keeps v (suc n) bs cs s t e0 kb h = go (λ f kf u forced k. unify-keeps v n (extended f kf u bs) cs (replace (app f end) u s) (replace (app f end) u t)
+    (assign-replace f kf u v forced s ∙ e0 ∙ sym (assign-replace f kf u v forced t)) (keeps-extended v f kf u forced bs kb) k) (difference s t) refl h
+  where
+    go : ((f : Sym) (kf : is_meta_kind f.kind ≡ true) (u : Tree) → v f ≡ assign v u → unify n (extend (app f end) u bs) (replace (app f end) u s) (replace (app f end) u t) ≡ Some cs → Keeps v cs)
+        → (d : Difference) → difference s t ≡ d → round n bs s t d ≡ Some cs → Keeps v cs
+    go ih Same e h = subst (Keeps v) (ap (got bs) h) kb
+    go ih Clash e h = cc
+    go ih (Bind m u) e h = bound_now (difference-binds s t m u e) (is_scoped 0 u) (occurs m u) h
+      where
+        bound_now : Binds s t m u → (x y : Bool) → next_round n bs s t m u x y ≡ Some cs → Keeps v cs
+        bound_now b false y h = cc
+        bound_now b true true h = cc
+        bound_now b true false h = ih b.0 b.2 u (b.4 v e0) (subst (λ x. unify n (extend x u bs) (replace x u s) (replace x u t) ≡ Some cs) b.1 h)
+
+On-some : (ls : List Sym) (f : Sym) → On ls f → 1 ≤ length ls
+On-some [] f h = absurd h
+On-some (g ∷ ls) f h = omega arith
+
+-- where there is a unifier, and room for each metavariable, the unifier finds one
+unify-finds : (v : Sym → Tree) → ((g : Sym) → IsClosed (v g)) → (n : ℕ) (bs : List Binding) (s t : Tree) (ls : List Sym) → StandAlone s → StandAlone t → Covers ls s → Covers ls t → length ls ≤ n → assign v s ≡ assign v t
+    → (cs : List Binding) × (unify n bs s t ≡ Some cs)
+unify-finds v cv zero bs s t ls as' at cs ct room e0 = go (difference s t) refl
+  where
+    go : (d : Difference) → difference s t ≡ d → (cs : List Binding) × (last_round bs d ≡ Some cs)
+    go Same e = (bs, refl)
+    go Clash e = absurd (difference-clash v s t as' at e e0)
+    go (Bind m u) e = let b = difference-binds s t m u e in absurd (none (On-some ls b.0 (b.5 ls cs ct).0))
+      where
+        none : 1 ≤ length ls → ⊥
+        none k = omega arith
+unify-finds v cv (suc n) bs s t ls as' at cs ct room e0 = go
+    (λ f kf u forced on cu su off. unify-finds v cv n (extended f kf u bs) (replace (app f end) u s) (replace (app f end) u t) (dropped f ls)
+    (alone-replace f kf u ls su s as') (alone-replace f kf u ls su t at)
+    (covers-replace f kf u ls (covers-off f kf u ls u cu off) s cs) (covers-replace f kf u ls (covers-off f kf u ls u cu off) t ct)
+    (omega (arith, dropped-less f ls on)) (assign-replace f kf u v forced s ∙ e0 ∙ sym (assign-replace f kf u v forced t)))
+    (difference s t) refl
+  where
+    go : ((f : Sym) (kf : is_meta_kind f.kind ≡ true) (u : Tree) → v f ≡ assign v u → On ls f → Covers ls u → StandAlone u → occurs (app f end) u ≡ false
+        → (cs : List Binding) × (unify n (extend (app f end) u bs) (replace (app f end) u s) (replace (app f end) u t) ≡ Some cs))
+        → (d : Difference) → difference s t ≡ d → (cs : List Binding) × (round n bs s t d ≡ Some cs)
+    go ih Same e = (bs, refl)
+    go ih Clash e = absurd (difference-clash v s t as' at e e0)
+    go ih (Bind m u) e = let b = difference-binds s t m u e in subst (λ x. (cs : List Binding) × (next_round n bs s t x u (is_scoped 0 u) (occurs x u) ≡ Some cs)) (sym b.1) (tested b (is_scoped 0 u) refl (occurs (app b.0 end) u) refl)
+      where
+        tested : (b : Binds s t m u) → (x : Bool) → is_scoped 0 u ≡ x → (y : Bool) → occurs (app b.0 end) u ≡ y → (cs : List Binding) × (next_round n bs s t (app b.0 end) u x y ≡ Some cs)
+        tested b false q y p = absurd (true_not_false (sym (true-scoped 0 u (scoped-back v 0 u (subst (IsScoped 0) (b.4 v e0) (cv b.0)))) ∙ q))
+        tested b true q true p = absurd (larger (occurs-smaller b.0 b.2 v u p (λ z. b.3 (z ∙ sym b.1))) (ap nodes (b.4 v e0)))
+          where
+            larger : nodes (v b.0) < nodes (assign v u) → nodes (v b.0) ≡ nodes (assign v u) → ⊥
+            larger l k = omega arith
+        tested b true q false p = ih b.0 b.2 u (b.4 v e0) (b.5 ls cs ct).0 (b.5 ls cs ct).1 (b.6 as' at) p
+
+-- with room for each metavariable the answer is the same
+unify-room : (n m : ℕ) (bs : List Binding) (s t : Tree) (ls : List Sym) → Covers ls s → Covers ls t → length ls ≤ n → length ls ≤ m → unify n bs s t ≡ unify m bs s t
+unify-room zero zero bs s t ls cs ct p q = refl
+unify-room zero (suc m) bs s t ls cs ct p q = go (difference s t) refl
+  where
+    go : (d : Difference) → difference s t ≡ d → last_round bs d ≡ round m bs s t d
+    go Same e = refl
+    go Clash e = refl
+    go (Bind x u) e = let b = difference-binds s t x u e in absurd (none (On-some ls b.0 (b.5 ls cs ct).0))
+      where
+        none : 1 ≤ length ls → ⊥
+        none k = omega arith
+unify-room (suc n) zero bs s t ls cs ct p q = go (difference s t) refl
+  where
+    go : (d : Difference) → difference s t ≡ d → round n bs s t d ≡ last_round bs d
+    go Same e = refl
+    go Clash e = refl
+    go (Bind x u) e = let b = difference-binds s t x u e in absurd (none (On-some ls b.0 (b.5 ls cs ct).0))
+      where
+        none : 1 ≤ length ls → ⊥
+        none k = omega arith
+unify-room (suc n) (suc m) bs s t ls cs ct p q = go
+    (λ f kf u on cu off. unify-room n m (extended f kf u bs) (replace (app f end) u s) (replace (app f end) u t) (dropped f ls)
+    (covers-replace f kf u ls (covers-off f kf u ls u cu off) s cs) (covers-replace f kf u ls (covers-off f kf u ls u cu off) t ct)
+    (omega (arith, dropped-less f ls on)) (omega (arith, dropped-less f ls on)))
+    (difference s t) refl
+  where
+    go : ((f : Sym) (kf : is_meta_kind f.kind ≡ true) (u : Tree) → On ls f → Covers ls u → occurs (app f end) u ≡ false
+        → unify n (extend (app f end) u bs) (replace (app f end) u s) (replace (app f end) u t) ≡ unify m (extend (app f end) u bs) (replace (app f end) u s) (replace (app f end) u t))
+        → (d : Difference) → difference s t ≡ d → round n bs s t d ≡ round m bs s t d
+    go ih Same e = refl
+    go ih Clash e = refl
+    go ih (Bind x u) e = let b = difference-binds s t x u e in subst (λ z. next_round n bs s t z u (is_scoped 0 u) (occurs z u) ≡ next_round m bs s t z u (is_scoped 0 u) (occurs z u)) (sym b.1) (tested b (is_scoped 0 u) (occurs (app b.0 end) u) refl)
+      where
+        tested : (b : Binds s t x u) → (y z : Bool) → occurs (app b.0 end) u ≡ z → next_round n bs s t (app b.0 end) u y z ≡ next_round m bs s t (app b.0 end) u y z
+        tested b false z e = refl
+        tested b true true e = refl
+        tested b true false e = ih b.0 b.2 u (b.5 ls cs ct).0 (b.5 ls cs ct).1 e
+
+-- the metavariables of both terms
+abbrev both_metas : Tree → Tree → List Sym
+both_metas s t = metas s ++ metas t
+
+both-few : (s t : Tree) → length (both_metas s t) ≤ nodes s + nodes t
+both-few s t = omega (arith, length_append (metas s) (metas t), metas-few s, metas-few t)
+
+covers-first : (s t : Tree) → Covers (both_metas s t) s
+covers-first s t = covers-wider (metas s) (both_metas s t) (On-left (metas s) (metas t)) s (covers-metas s)
+
+covers-second : (s t : Tree) → Covers (both_metas s t) t
+covers-second s t = covers-wider (metas t) (both_metas s t) (On-right (metas s) (metas t)) t (covers-metas t)
+
+mutual
+  assign-none : (e : Tree) → assign (answers []) e ≡ e
+  assign-none (bound i) = refl
+  assign-none (app f end) = go (is_meta_kind f.kind)
+    where
+      go : (x : Bool) → either_term x (app f end) (app f end) ≡ app f end
+      go true = refl
+      go false = refl
+  assign-none (app f (part e ps)) = λ i. app f (part (assign-none e i) (assigns-none ps i))
+  assign-none (node h ns ps) = ap (node h ns) (assigns-none ps)
+  assign-none (bind b ps e) = λ i. bind b (assigns-none ps i) (assign-none e i)
+
+  assigns-none : (ps : Parts) → assigns (answers []) ps ≡ ps
+  assigns-none end = refl
+  assigns-none (part e ps) = λ i. part (assign-none e i) (assigns-none ps i)
+
+pub mgu-unifies : (s t : Tree) (bs : List Binding) → mgu s t ≡ Some bs → IsUnifier (answers bs) s t
+mgu-unifies s t bs h =
+    let r = unify-sound (nodes s + nodes t) [] bs s t s t tt (sym (assign-none s)) (sym (assign-none t)) h in
+    (closed-answers bs r.0, r.1)
+
+pub mgu-general : (s t : Tree) (bs : List Binding) (v : Sym → Tree) → mgu s t ≡ Some bs → IsUnifier v s t → (f : Sym) → is_meta_kind f.kind ≡ true → assign v (answers bs f) ≡ v f
+mgu-general s t bs v h k = unify-keeps v (nodes s + nodes t) [] bs s t k.1 (λ f kf. assign-meta v f kf) h
+
+pub mgu-complete : (s t : Tree) (v : Sym → Tree) → StandAlone s → StandAlone t → IsUnifier v s t → (bs : List Binding) × (mgu s t ≡ Some bs)
+mgu-complete s t v a b k = unify-finds v k.0 (nodes s + nodes t) [] s t (both_metas s t) a b (covers-first s t) (covers-second s t) (both-few s t) k.1
+
+pub mgu-room : (s t : Tree) (n : ℕ) → nodes s + nodes t ≤ n → unify n [] s t ≡ mgu s t
+mgu-room s t n r = unify-room n (nodes s + nodes t) [] s t (both_metas s t) (covers-first s t) (covers-second s t) (omega (arith, both-few s t)) (both-few s t)
