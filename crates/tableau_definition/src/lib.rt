@@ -3,4 +3,7 @@
 
 mod laws;
 
-pub use laws::{atoms_have_room, closed_derives, closed_has_tree, tree_derives, tree_refutes};
+pub use laws::{
+    answer_is_general, answer_unifies, atoms_have_room, closed_derives, closed_has_tree,
+    none_means_none, tree_derives, tree_refutes, unifier_has_room,
+};
