@@ -15,6 +15,8 @@ pub mod Sound
 pub mod Used
 pub mod Turned
 pub mod Treed
+pub mod Connectives
+pub mod Kept
 pub mod Grown
 pub mod Contracts
 pub mod Rooms

@@ -6,4 +6,5 @@ pub mod Instances
 pub mod Search
 pub mod Turns
 pub mod Unifiers
+pub mod Propositional
 pub mod Laws
