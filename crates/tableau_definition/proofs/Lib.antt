@@ -1,7 +1,8 @@
 pub mod Trace
-pub mod Rows
-pub mod Own
-pub mod Cantor
+pub mod Worked
+pub mod WorkedSets
+pub mod WorkedCases
+pub mod WorkedCantor
 pub mod Rules
 pub mod Natural
 pub mod Lefts
@@ -24,3 +25,5 @@ pub mod Refutes
 pub mod Enough
 pub mod Reducing
 pub mod Decides
+pub mod Rooms
+pub mod Unifier
