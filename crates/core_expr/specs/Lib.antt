@@ -4,4 +4,5 @@ pub mod Terms
 pub mod Heads
 pub mod Nodes
 pub mod Flat
+pub mod Rows
 pub mod Coding

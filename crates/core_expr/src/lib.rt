@@ -8,6 +8,7 @@ mod expr;
 mod head;
 mod memory;
 mod row;
+mod rows;
 mod text;
 
 pub use expr::Expr;
