@@ -2,3 +2,5 @@ pub mod Laws
 pub mod Equal
 pub mod Formed
 pub mod FlatLaws
+pub mod SpanLaws
+pub mod BuildLaws

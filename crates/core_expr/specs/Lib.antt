@@ -5,4 +5,5 @@ pub mod Heads
 pub mod Nodes
 pub mod Flat
 pub mod Rows
+pub mod Spans
 pub mod Coding

@@ -5,10 +5,13 @@
 #![tactic(auto)]
 
 mod expr;
+mod forest;
 mod head;
+mod kinds;
 mod memory;
 mod row;
 mod rows;
+mod spans;
 mod text;
 
 pub use expr::Expr;
