@@ -46,4 +46,3 @@ rest-short depth (b ∷ c ∷ z) h = absurd (omega arith)
 
 pub rest-end : (depth : ℕ) (z : Text) (i : ℕ) → length z ≤ i + 1 → rest_len depth (drop i z) ≡ None
 rest-end depth z i h = rest-short depth (drop i z) (omega (arith, length-drop {A = ℕ}))
-

@@ -23,4 +23,3 @@ value-take run i =
 
 pub not_small : (run : Text) (i : ℕ) → 2 ^ 128 ≤ value_of (take i run) → is_small run ≡ false
 not_small run i h = le-ltb (value_of run) (2 ^ 128) (omega (arith, value-take run i))
-

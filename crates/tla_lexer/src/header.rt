@@ -3,12 +3,10 @@
 ghost use Rattle.std.specs.Prelude.{◌≡◌, ◌+◌, ◌<◌, ◌≤◌, ◌^◌, length, take, drop, Some, None, IfOk, IfSome, true, false};
 ghost use Rattle.tla_lexer.specs.Headers as spec;
 
-use std::alloc::Global;
-
-use core_expr::{Memory, Text};
-use tla_ast::is_identifier;
-
 use crate::run::{behind, same_len, space_len, word_len};
+use core_expr::{Memory, Text};
+use std::alloc::Global;
+use tla_ast::is_identifier;
 
 /// A header: its module's name and the number of its bytes.
 #[derive(Debug, Drop)]

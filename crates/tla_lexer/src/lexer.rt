@@ -3,20 +3,24 @@
 ghost use Rattle.std.specs.Prelude.{◌≡◌, ◌+◌, ◌*◌, ◌<◌, ◌≤◌, ◌^◌, length, drop};
 ghost use Rattle.tla_lexer.specs.Tokens as spec;
 
-use std::alloc::Global;
-
-use sqlite_items::Items;
-use tla_ast::{Kind, LexFault, Place, Tok, Token, Tokens};
-
 use crate::header::{Found, find};
 use crate::piece::{Piece, piece_at};
 use crate::place::{FIRST, after};
+use core_expr::Text;
+use sqlite_items::Items;
+use std::alloc::Global;
+use tla_ast::{Kind, LexFault, Place, Tok, Token, Tokens};
 
 /// The number of bytes that a module may have.
 pub const LIMIT: usize = 1_048_576;
 
 /// The tokens behind so many bytes, which end at this place.
-fn tokens_behind(alloc: Global, bytes: &[u8], start: usize, begin: Place) -> Result<Items<Token>, LexFault>
+fn tokens_behind(
+    alloc: Global,
+    bytes: &[u8],
+    start: usize,
+    begin: Place,
+) -> Result<Items<Token>, LexFault>
     requires short { length bytes.now ≤ 1048576 }
     requires within { start ≤ length bytes.now }
     requires line { begin.line ≤ 1 + start }
@@ -89,10 +93,20 @@ fn tokens_of(alloc: Global, bytes: &[u8], found: Found) -> Result<Tokens, LexFau
     let Found { at, header } = found;
     let place = after(FIRST, &bytes[..at]);
     let begin = after(place, &bytes[at..at + header.length]);
-    let list = tokens_behind(alloc, bytes, at + header.length, begin)?;
-    Ok(Tokens {
-        name: header.name,
-        header: place,
-        list,
-    })
+    let listed = tokens_behind(alloc, bytes, at + header.length, begin);
+    headed(header.name, place, listed)
+}
+
+/// These tokens with the header, or their fault.
+fn headed(
+    name: Text,
+    header: Place,
+    listed: Result<Items<Token>, LexFault>,
+) -> Result<Tokens, LexFault>
+    ensures { result ≡ spec.headed name header listed }
+{
+    match listed {
+        Ok(list) => Ok(Tokens { name, header, list }),
+        Err(fault) => Err(fault),
+    }
 }

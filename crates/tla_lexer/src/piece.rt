@@ -5,15 +5,13 @@ ghost use Rattle.std.specs.List.{list_all};
 ghost use Rattle.std.specs.Char.{is_ascii_digit};
 ghost use Rattle.tla_lexer.specs.Pieces as spec;
 
-use std::alloc::Global;
-
-use core_expr::{Memory, Text};
-use tla_ast::{Kind, Tok, begins_with_fairness, has_letter, is_word_byte};
-
 use crate::comment::{opens, rest_len};
 use crate::run::{at, behind, digit_len, is_blank, line_len, same_len, word_len};
 use crate::signs::{canonical, is_backslash_word, longest};
 use crate::string::string;
+use core_expr::{Memory, Text};
+use std::alloc::Global;
+use tla_ast::{Kind, Tok, begins_with_fairness, has_letter, is_word_byte};
 
 /// What stands at the front of a text.
 #[derive(Debug, Drop)]

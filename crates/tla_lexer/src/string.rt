@@ -4,12 +4,10 @@ ghost use Rattle.std.specs.Prelude.{◌≡◌, ◌++◌, ◌∷◌, [], ◌+◌,
 ghost use Rattle.tla_lexer.specs.Strings as spec;
 ghost use Rattle.tla_lexer.specs.Pieces as piece;
 
-use std::alloc::{AllocError, Global};
-
-use core_expr::{Memory, Text};
-use tla_ast::{Kind, Tok};
-
 use crate::piece::Piece;
+use core_expr::{Memory, Text};
+use std::alloc::{AllocError, Global};
+use tla_ast::{Kind, Tok};
 
 /// What a byte of a string does.
 #[derive(Clone, Copy, Debug, PartialEq, Eq)]

@@ -6,7 +6,7 @@ abbrev pub invariant-loop-at : goal.invariant-loop-at
 invariant-loop-at l = record {
   value : find l.bytes ≡ farther l.at (find (drop l.at l.bytes));
   none : l.dashed ≡ true → header_at (drop l.at l.bytes) ≡ None;
-  within : l.at ≤ length l.bytes
+  within : l.at ≤ length l.bytes;
 }
 
 abbrev pub decreases-loop-at : goal.decreases-loop-at

@@ -7,7 +7,7 @@ invariant-loop-at l = record {
   value : tokens_from 0 l.fn.begin (drop l.fn.start l.bytes) ≡ behind l.list (tokens_from 0 l.place (drop l.at l.bytes));
   within : l.at ≤ length l.bytes;
   line : l.place.line ≤ 1 + l.at;
-  column : l.place.column ≤ 1 + 8 * l.at
+  column : l.place.column ≤ 1 + 8 * l.at;
 }
 
 abbrev pub decreases-loop-at : goal.decreases-loop-at

@@ -6,5 +6,5 @@ abbrev pub invariant-loop-byte : goal.invariant-loop-byte
 invariant-loop-byte l = record {
   value : after l.p (drop l.byte-index l.z) ≡ after l.fn.p l.z;
   line : l.p.line ≤ l.fn.p.line + l.byte-index;
-  column : l.p.column ≤ l.fn.p.column + 8 * l.byte-index
+  column : l.p.column ≤ l.fn.p.column + 8 * l.byte-index;
 }
