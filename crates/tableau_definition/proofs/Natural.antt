@@ -11,7 +11,7 @@ use Rattle.seq_calculus.specs.Calculus.{Has, IsClosed, AllClosed, Der, schema_pr
 use Rattle.seq_calculus.specs.Calculus.Rule.{Cut, NotR, AndL, OrR, ImpL, ImpR, IffL, IffR, AllL, AllR, ExL, ExR, Repl, Schema}
 use Rattle.core_expr.specs.Terms.{same}
 use Rattle.tableau_definition.specs.Terms.{replace, replaces}
-use Rattle.core_expr.proofs.Laws.{IsScoped-put, put_closed, shift_closed}
+use Rattle.core_expr.proofs.Laws.{IsScoped-put, IsScoped-shift, AreScoped-shifts, put_closed, shift_closed, shifts_closed}
 use Rattle.tableau_definition.proofs.Rules.{HasAll-itself, HasAll-one, Der-closed, weak, by_ax, by_refl, by_one, by_two, refute, not_left}
 use Rattle.core_expr.proofs.Equal.{same-true}
 
@@ -181,20 +181,27 @@ ex_intro g p t cp ct h =
 pub eq_self : (g : List Tree) (t : Tree) → AllClosed g → IsClosed t → Der g (eq_ t t ∷ [])
 eq_self g t cg ct = by_refl g (eq_ t t ∷ []) t cg ((ct, (ct, tt)), tt) (inl refl)
 
-pub repl : (g : List Tree) (h s t : Tree) → Der g (eq_ s t ∷ []) → Der g (inst h s ∷ []) → Der g (inst h t ∷ [])
-repl g h s t e k =
+pub repl : (g : List Tree) (h s t : Tree) → IsScoped 1 h → Der g (eq_ s t ∷ []) → Der g (inst h s ∷ []) → Der g (inst h t ∷ [])
+repl g h s t ch e k =
     let c = Der-closed g (eq_ s t ∷ []) e in
     let ce : IsClosed (eq_ s t) = c.1.0 in
     let cs : IsClosed (inst h s) = is_closed g (inst h s) k in
     let ct : IsClosed (inst h t) = inst_closed h t ce.1.0 in
     cut g (inst h t ∷ []) (eq_ s t) e
     (cut (eq_ s t ∷ g) (inst h t ∷ []) (inst h s) (grow g (inst h s ∷ []) (eq_ s t) ce k)
-    (by_one (Repl h s t) (inst h s ∷ eq_ s t ∷ g) (inst h t ∷ []) (inst h t ∷ inst h s ∷ eq_ s t ∷ g) (inst h t ∷ []) (cs, (ce, c.0)) (ct, tt) (inr (inl refl), inl refl) refl
+    (by_one (Repl h s t) (inst h s ∷ eq_ s t ∷ g) (inst h t ∷ []) (inst h t ∷ inst h s ∷ eq_ s t ∷ g) (inst h t ∷ []) (cs, (ce, c.0)) (ct, tt) (inr (inl refl), inl refl, ch) refl
     (head_ax (inst h s ∷ eq_ s t ∷ g) (inst h t) (cs, (ce, c.0)) ct)))
 
 pub by_schema : (g : List Tree) (k z : ℕ) (ps : List Tree) (i : Tree) → AllClosed g → IsClosed i → instance_of k z ps ≡ Some i → Der g (i ∷ [])
 by_schema g k z ps i cg ci e =
     by_one (Schema k z ps) g (i ∷ []) (i ∷ g) (i ∷ []) cg (ci, tt) (i, e) (ap (λ o. schema_premise o g (i ∷ [])) e) (head_ax g i cg ci)
+
+-- what has no loose variable from n on has none from n + 1 on
+pub loosen : (n : ℕ) (e : Tree) → IsScoped n e → IsScoped (suc n) e
+loosen n e h = subst (IsScoped (suc n)) (shift_closed n n 1 e (omega arith) h) (IsScoped-shift n n 1 (suc n) e (omega arith) h)
+
+loosens : (n : ℕ) (ps : Parts) → AreScoped n ps → AreScoped (suc n) ps
+loosens n ps h = subst (AreScoped (suc n)) (shifts_closed n n 1 ps (omega arith) h) (AreScoped-shifts n n 1 (suc n) ps (omega arith) h)
 
 -- the closed terms s stand as the variable d
 abbrev mutual
@@ -207,6 +214,29 @@ abbrev mutual
   abstracts : Tree → ℕ → Parts → Parts
   abstracts s d end = end
   abstracts s d (part e ps) = part (abstract s d e) (abstracts s d ps)
+
+mutual
+  abstract-scoped : (s : Tree) (d : ℕ) (f : Tree) → IsScoped d f → IsScoped (suc d) (abstract s d f)
+  abstract-scoped s d (bound i) h = loosen d (bound i) h
+  abstract-scoped s d (app f ps) h = go (same s (app f ps)) (abstracts-scoped s d ps h)
+    where
+      go : (x : Bool) → AreScoped (suc d) (abstracts s d ps) → IsScoped (suc d) (elim x [ true ↦ bound d | false ↦ app f (abstracts s d ps) ])
+      go true k = omega arith
+      go false k = k
+  abstract-scoped s d (node n ns ps) h = go (same s (node n ns ps)) (abstracts-scoped s d ps h)
+    where
+      go : (x : Bool) → AreScoped (suc d) (abstracts s d ps) → IsScoped (suc d) (elim x [ true ↦ bound d | false ↦ node n ns (abstracts s d ps) ])
+      go true k = omega arith
+      go false k = k
+  abstract-scoped s d (bind b ps e) h = go (same s (bind b ps e)) (abstracts-scoped s d ps h.0) (abstract-scoped s (suc d) e h.1)
+    where
+      go : (x : Bool) → AreScoped (suc d) (abstracts s d ps) → IsScoped (suc (suc d)) (abstract s (suc d) e) → IsScoped (suc d) (elim x [ true ↦ bound d | false ↦ bind b (abstracts s d ps) (abstract s (suc d) e) ])
+      go true k l = omega arith
+      go false k l = (k, l)
+
+  abstracts-scoped : (s : Tree) (d : ℕ) (ps : Parts) → AreScoped d ps → AreScoped (suc d) (abstracts s d ps)
+  abstracts-scoped s d end h = tt
+  abstracts-scoped s d (part e ps) h = (abstract-scoped s d e h.0, abstracts-scoped s d ps h.1)
 
 put_var : (d : ℕ) (t : Tree) → IsClosed t → put d (part t end) (bound d) ≡ t
 put_var d t ct = at d (nat_lt d d) (d - d) (irrefl d) (self d)
@@ -272,7 +302,7 @@ replaced g s t f e h =
     let ce : IsClosed (eq_ s t) = is_closed g (eq_ s t) e in
     let cf : IsClosed f = is_closed g f h in
     let before : f ≡ inst (abstract s 0 f) s = sym (put-abstract s s 0 f ce.0 cf ∙ replace-self s f) in
-    subst (λ x. Der g (x ∷ [])) (put-abstract s t 0 f ce.1.0 cf) (repl g (abstract s 0 f) s t e (subst (λ x. Der g (x ∷ [])) before h))
+    subst (λ x. Der g (x ∷ [])) (put-abstract s t 0 f ce.1.0 cf) (repl g (abstract s 0 f) s t (abstract-scoped s 0 f cf) e (subst (λ x. Der g (x ∷ [])) before h))
 
 pub eq_flip : (g : List Tree) (s t : Tree) → Der g (eq_ s t ∷ []) → Der g (eq_ t s ∷ [])
 eq_flip g s t e =
@@ -281,4 +311,4 @@ eq_flip g s t e =
     let ct : IsClosed t = c.1.0.1.0 in
     let h : Tree = eq_ (bound 0) s in
     let at : (x : Tree) → IsClosed x → inst (eq_ (bound 0) s) x ≡ eq_ x s = λ x cx i. eq_ (put_var 0 x cx i) (put_closed 0 0 (part x end) s (omega arith) cs i) in
-    subst (λ x. Der g (x ∷ [])) (at t ct) (repl g (eq_ (bound 0) s) s t e (subst (λ x. Der g (x ∷ [])) (sym (at s cs)) (eq_self g s c.0 cs)))
+    subst (λ x. Der g (x ∷ [])) (at t ct) (repl g (eq_ (bound 0) s) s t (omega arith, (loosen 0 s cs, tt)) e (subst (λ x. Der g (x ∷ [])) (sym (at s cs)) (eq_self g s c.0 cs)))

@@ -7,7 +7,7 @@ use Rattle.core_expr.specs.Tree.Parts.{end, part}
 use Rattle.core_expr.specs.Put.{shift, put, inst, IsScoped, AreScoped}
 use Rattle.seq_calculus.specs.Calculus.{Has, IsClosed, AllClosed, Der}
 use Rattle.tableau_definition.proofs.Rules.{HasAll-itself, Der-closed, refute}
-use Rattle.tableau_definition.proofs.Natural.{left_closed, is_closed, head_ax, grow, not_intro, not_elim, not_not, mp, imp_intro, iff_to, iff_from, iff_self, iff_flip, iff_chain, and_left, and_right, or_left, or_right, inst_closed, all_elim, all_intro, ex_elim, repl, by_schema, replaced, eq_flip}
+use Rattle.tableau_definition.proofs.Natural.{left_closed, is_closed, head_ax, grow, not_intro, not_elim, not_not, mp, imp_intro, iff_to, iff_from, iff_self, iff_flip, iff_chain, and_left, and_right, or_left, or_right, inst_closed, all_elim, all_intro, ex_elim, repl, by_schema, loosen, replaced, eq_flip}
 use Rattle.core_expr.specs.Terms.{same, less}
 use Rattle.tableau_definition.specs.Terms.{first_some, first_at, occurs, replace}
 use Rattle.seq_calculus.specs.Schemas.{instance_of, nth, about_nth}
@@ -42,8 +42,8 @@ by_not_left-fine g0 a h (Some l) r k =
     ))
 
 -- by an equation, in a context
-in_place : (g : List Tree) (h s t a b : Tree) → inst h s ≡ a → inst h t ≡ b → Der g (eq_ s t ∷ []) → Der g (a ∷ []) → Der g (b ∷ [])
-in_place g h s t a b p q e d = subst (λ x. Der g (x ∷ [])) q (repl g h s t e (subst (λ x. Der g (x ∷ [])) (sym p) d))
+in_place : (g : List Tree) (h s t a b : Tree) → IsScoped 1 h → inst h s ≡ a → inst h t ≡ b → Der g (eq_ s t ∷ []) → Der g (a ∷ []) → Der g (b ∷ [])
+in_place g h s t a b ch p q e d = subst (λ x. Der g (x ∷ [])) q (repl g h s t ch e (subst (λ x. Der g (x ∷ [])) (sym p) d))
 
 dom_of : (g : List Tree) (f s e : Tree) → Der g (eq_ f (fun_ s e) ∷ []) → Der g (eq_ (dom_ f) s ∷ [])
 dom_of g f s e d =
@@ -51,7 +51,7 @@ dom_of g f s e d =
     let cf : IsClosed f = c.1.0.0 in
     let cu : IsClosed (fun_ s e) = c.1.0.1.0 in
     let cs : IsClosed s = cu.0.0 in
-    in_place g (eq_ (dom_ (bound 0)) s) (fun_ s e) f (eq_ (dom_ (fun_ s e)) s) (eq_ (dom_ f) s)
+    in_place g (eq_ (dom_ (bound 0)) s) (fun_ s e) f (eq_ (dom_ (fun_ s e)) s) (eq_ (dom_ f) s) ((low 0, tt), (loosen 0 s cs, tt))
     (λ i. eq_ (dom_ (here (fun_ s e) cu i)) (still (fun_ s e) cu s cs i)) (λ i. eq_ (dom_ (here f cf i)) (still f cf s cs i))
     (eq_flip g f (fun_ s e) d) (by_schema g 15 0 (s ∷ e ∷ []) (eq_ (dom_ (fun_ s e)) s) c.0 ((cu, tt), (cs, tt)) refl)
 
@@ -131,7 +131,7 @@ same_of g s t d =
     let at : (x : Tree) → IsClosed x → inst (iff_ (in_ c s) (in_ c (bound 0))) x ≡ iff_ (in_ c s) (in_ c x) =
     λ x cx i. iff_ (in_ (still x cx c ch i) (still x cx s cs i)) (in_ (still x cx c ch i) (here x cx i)) in
     let mid : Der g (iff_ (in_ c s) (in_ c t) ∷ []) =
-    in_place g (iff_ (in_ c s) (in_ c (bound 0))) s t (iff_ (in_ c s) (in_ c s)) (iff_ (in_ c s) (in_ c t)) (at s cs) (at t ct) d (iff_self g (in_ c s) c0.0 ci) in
+    in_place g (iff_ (in_ c s) (in_ c (bound 0))) s t (iff_ (in_ c s) (in_ c s)) (iff_ (in_ c s) (in_ c t)) ((loosen 0 c ch, (loosen 0 s cs, tt)), ((loosen 0 c ch, (low 0, tt)), tt)) (at s cs) (at t ct) d (iff_self g (in_ c s) c0.0 ci) in
     all_intro g p (tt, cp)
     (iff_chain g (inst (members s) c) (in_ c s) (inst (members t) c) (iff_flip g (in_ c s) (inst (members s) c) (members-iff g s c c0.0 cs ch))
     (iff_chain g (in_ c s) (in_ c t) (inst (members t) c) mid (members-iff g t c c0.0 ct ch)))
@@ -160,7 +160,7 @@ at_of g x s e d =
     all_intro g p (tt, cp)
     (subst (λ f. Der g (f ∷ [])) goal
     (imp_intro g (in_ c s) (eq_ (apply_ x c) (inst e c))
-    (in_place g1 (eq_ (apply_ (bound 0) c) (inst e c)) (fun_ s e) x (eq_ (apply_ (fun_ s e) c) (inst e c)) (eq_ (apply_ x c) (inst e c)) (at (fun_ s e) cu) (at x cx)
+    (in_place g1 (eq_ (apply_ (bound 0) c) (inst e c)) (fun_ s e) x (eq_ (apply_ (fun_ s e) c) (inst e c)) (eq_ (apply_ x c) (inst e c)) ((low 0, (loosen 0 c ch, tt)), (loosen 0 (inst e c) ce, tt)) (at (fun_ s e) cu) (at x cx)
     (eq_flip g1 x (fun_ s e) (grow g (eq_ x (fun_ s e) ∷ []) (in_ c s) ci d)) law)))
 
 derive_members-fine : (b : Branch) (s t : Tree) → Has (formulas b) (eq_ s t) → FineStep (formulas b) (derive_members b s t)
@@ -245,7 +245,7 @@ derive_not-fine b f x u h says = first (is_fun u) (is_fun x) (first_some (with_f
           let cv : IsClosed v = (is_closed g (eq_ x v) e).1.0 in
           let cu : IsClosed u = (is_closed g (not_ (eq_ x u)) d).0.1.0 in
           let at : (y : Tree) → IsClosed y → inst (not_ (eq_ (bound 0) u)) y ≡ not_ (eq_ y u) = λ y cy i. not_ (eq_ (here y cy i) (still y cy u cu i)) in
-          (in_place g (not_ (eq_ (bound 0) u)) x v (not_ (eq_ x u)) (not_ (eq_ v u)) (at x cx) (at v cv) e d, tt)),
+          (in_place g (not_ (eq_ (bound 0) u)) x v (not_ (eq_ x u)) (not_ (eq_ v u)) ((low 0, (loosen 0 u cu, tt)), tt) (at x cx) (at v cv) e d, tt)),
     )
 
     second : (o : Tree × Tree) (y : Bool) → FunFine (formulas b) x o → FineStep (formulas b) (elim y [ true ↦ None | false ↦ derives 2 (f ∷ o.0 ∷ []) (not_ (eq_ o.1 u) ∷ []) ])

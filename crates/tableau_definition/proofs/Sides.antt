@@ -1,6 +1,6 @@
 -- Branches and results: what is refuted, what is derived.
 use Rattle.std.specs.Prelude.{◌≡◌, ℕ, zero, suc, Bool, true, false, cond, Option, Some, None, List, [], ◌∷◌, ◌++◌}
-use Rattle.std.proofs.Common.{refl, ap, sym, subst, inl, inr}
+use Rattle.std.proofs.Common.{refl, ap, sym, subst, inl, inr, arith}
 use Rattle.core_expr.specs.Tree.{Tree, Parts, true_, false_, not_, eq_}
 use Rattle.core_expr.specs.Tree.Tree.{bound, app, node, bind}
 use Rattle.core_expr.specs.Tree.Parts.{end, part}
@@ -239,7 +239,7 @@ apart_not g s t cg cs ct e = by_schema g 22 0 (s ∷ t ∷ []) (not_ (eq_ s t)) 
 true_false : (g : List Tree) → Der g (eq_ true_ false_ ∷ []) → Der g []
 true_false g h =
     let cg = left_closed g (eq_ true_ false_ ∷ []) h in
-    cut g [] false_ (repl g (bound 0) true_ false_ h (by_true g (true_ ∷ []) cg (tt, tt) (inl refl))) (by_false (false_ ∷ g) [] (tt, cg) tt (inl refl))
+    cut g [] false_ (repl g (bound 0) true_ false_ (omega arith) h (by_true g (true_ ∷ []) cg (tt, tt) (inl refl))) (by_false (false_ ∷ g) [] (tt, cg) tt (inl refl))
 
 pub clash-shut : (g : List Tree) (s t : Tree) → Der g (eq_ s t ∷ []) → is_truth_clash s t ≡ true → Der g []
 clash-shut g true_ false_ h e = true_false g h
