@@ -8,7 +8,8 @@ use Rattle.std.proofs.lemmas.Bool.Decides.{Decides-eqb}
 use Rattle.std.proofs.lemmas.Bool.{true≢false}
 use Rattle.std.specs.List.{All, list_all, list_any, prefix_len, starts_with}
 use Rattle.std.specs.Option.{option_and_then}
-use Rattle.first_form.specs.Names.{Text, is_word, is_identifier, is_free}
+use Rattle.tla_ast.specs.Word.{is_word_byte, is_identifier}
+use Rattle.first_form.specs.Names.{Text}
 use Rattle.first_form.specs.Reading.{cut, name, word_len, with_front, more, names}
 use Rattle.first_form.specs.Form.{followed, joined}
 use Rattle.first_form.proofs.Steps.{more-next, more-fails, more-stops}
@@ -63,15 +64,14 @@ cut-sound t z r e =
 
 -- ---- a name
 
-pub words : (n : Text) → IsName n → list_all is_word n ≡ true
-unfolding is_identifier
-words n e = and-left _ _ e
+pub words : (n : Text) → IsName n → list_all is_word_byte n ≡ true
+words n e = and-left (list_all is_word_byte n) _ (and-left _ _ (and-left _ _ e))
 
-word_len-append : (n r : Text) → list_all is_word n ≡ true → word_len r ≡ 0 → word_len (n ++ r) ≡ length n
+word_len-append : (n r : Text) → list_all is_word_byte n ≡ true → word_len r ≡ 0 → word_len (n ++ r) ≡ length n
 word_len-append [] r e h = h
 word_len-append (b ∷ n) r e h =
-    let first : is_word b ≡ true = and-left _ _ e in
-    let rest : word_len (n ++ r) ≡ length n = word_len-append n r (and-right (is_word b) _ e) h in
+    let first : is_word_byte b ≡ true = and-left _ _ e in
+    let rest : word_len (n ++ r) ≡ length n = word_len-append n r (and-right (is_word_byte b) _ e) h in
     let more : 1 + word_len (n ++ r) ≡ suc (length n) = omega (arith, rest) in
     rw first more
 

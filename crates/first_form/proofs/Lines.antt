@@ -5,7 +5,7 @@ use Rattle.std.specs.Cmp.Lexicographic.{same_text as same_text_told}
 use Rattle.std.proofs.lemmas.Bool.{le-ltb, true≢false}
 use Rattle.std.specs.List.{All}
 use Rattle.std.specs.Option.{option_and_then}
-use Rattle.first_form.specs.Names.{Text, is_identifier, same_text}
+use Rattle.first_form.specs.Names.{Text, same_text}
 use Rattle.first_form.specs.Reading as reading
 use Rattle.first_form.specs.Reading.{cut, name, word_len, names, Formula, Statement, NamedParts}
 use Rattle.first_form.specs.Form as spec

@@ -6,7 +6,7 @@ use Rattle.std.proofs.lemmas.List.{append-nil, append_cancel_right}
 use Rattle.std.proofs.lemmas.List.Elements.{All-head, All-tail, All-cons, All-nil, All-get_or, All-from_get_or, All-append}
 use Rattle.std.proofs.lemmas.Bool.{true≢false, lt-ltb, le-ltb}
 use Rattle.first_form.specs.declared.form.FirstForm.{FirstForm}
-use Rattle.first_form.specs.Names.{Text, is_identifier}
+use Rattle.first_form.specs.Names.{Text}
 use Rattle.first_form.specs.Form.{name_at, theorem_of, constants_line, before_obvious, body, written, IsLawful, IsTextOf, IsOfNoForm}
 use Rattle.first_form.specs.Reading as reading
 use Rattle.first_form.specs.Reading.{Statement, NamedParts, Places, are_new, declared, place, places}

@@ -1,7 +1,8 @@
 -- The one form of a module's text that is read, and how a text of the form is written.
 use Rattle.std.specs.Prelude.{◌≡◌, ℕ, ◌+◌, ◌<◌, ◌≤◌, ◌≢◌, ◌⊎◌, true, List, [], ◌∷◌, ◌++◌, length, map, slice_index_or, codes}
 use Rattle.std.specs.List.{All, AllPairs}
-use Rattle.first_form.specs.Names.{Text, is_identifier}
+use Rattle.tla_ast.specs.Word.{is_identifier}
+use Rattle.first_form.specs.Names.{Text}
 use Rattle.first_form.specs.declared.form.FirstForm.{FirstForm}
 
 -- names with a separator before each

@@ -8,7 +8,8 @@ use Rattle.first_form.specs.declared.scan.FoundParts.{FoundParts}
 use Rattle.first_form.specs.declared.scan.FoundStatement.{FoundStatement}
 use Rattle.first_form.specs.declared.stop.Stop.{Stop}
 use Rattle.first_form.specs.declared.stop.Stop.TheVariants as stop
-use Rattle.first_form.specs.Names.{Text, is_word, is_identifier, same_text}
+use Rattle.tla_ast.specs.Word.{is_word_byte, is_identifier}
+use Rattle.first_form.specs.Names.{Text, same_text}
 
 -- what a step gave, unless memory ran out
 abbrev pub Gives : {R A : Type 0} → (R → A) → Result R Stop → Option A → Type 0
@@ -44,7 +45,7 @@ abbrev pub cut : Text → Text → Option Text
 cut text z = if starts_with nat_eq z text then Some (drop (length text) z) else None
 
 abbrev pub word_len : Text → ℕ
-word_len = prefix_len is_word
+word_len = prefix_len is_word_byte
 
 -- the name at the front, and what follows it
 abbrev pub name : Text → Option (Text × Text)

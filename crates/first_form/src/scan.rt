@@ -2,10 +2,10 @@ ghost use Rattle.std.specs.Prelude.{◌≡◌, ◌+◌, ◌≤◌, ◌<◌, ◌^
 ghost use Rattle.first_form.specs.Reading as reading;
 
 use core_expr::Text;
+use tla_ast::{is_identifier, is_word_byte};
 use sqlite_items::Items;
 use std::alloc::Global;
 
-use crate::names::{is_identifier, is_word};
 use crate::stop::Stop;
 
 /// The place after this text, where it stands at a place of the bytes.
@@ -40,7 +40,7 @@ fn word_end(bytes: &[u8], at: usize) -> usize
     ensures within { result ≤ length bytes.now }
 {
     let mut end = at;
-    while end < bytes.len() && is_word(bytes[end]) {
+    while end < bytes.len() && is_word_byte(bytes[end]) {
         end += 1;
     }
     end
