@@ -1,11 +1,12 @@
 -- Steps of the reader: one goes on where the one before it ended.
-use Rattle.std.proofs.Common.{◌≡◌, ℕ, zero, suc, ◌+◌, ◌-◌, ◌≤◌, ◌<◌, Bool, true, false, List, [], ◌∷◌, ◌++◌, length, drop, Option, Some, None, Result, Ok, Err, refl, sym, ap, ◌∙◌, arith, append_assoc, subst}
+use Rattle.std.proofs.Common.{◌≡◌, ℕ, zero, suc, ◌+◌, ◌-◌, ◌≤◌, ◌<◌, Bool, true, false, List, [], ◌∷◌, ◌++◌, length, take, drop, cond, Option, Some, None, Result, Ok, Err, refl, sym, ap, ◌∙◌, arith, append_assoc, subst}
 use Rattle.std.specs.Option.{option_and_then}
 use Rattle.std.specs.Result.{IsErrAnd}
-use Rattle.first_form.specs.declared.read.Stop.{Stop}
-use Rattle.first_form.specs.declared.read.Stop.TheVariants as stop
+use Rattle.first_form.specs.declared.stop.Stop.{Stop}
+use Rattle.first_form.specs.declared.stop.Stop.TheVariants as stop
+use Rattle.tla_ast.specs.Word.{is_identifier}
 use Rattle.first_form.specs.Names.{Text}
-use Rattle.first_form.specs.Reading.{Leaves, cut, name, names, more, behind, with_front}
+use Rattle.first_form.specs.Reading.{Leaves, cut, name, word_len, names, more, behind, with_front}
 
 -- a step that stops where an earlier one stopped
 pub stops : {R S A B : Type 0} (v : R → A) (n : R → ℕ) (w : S → B) (m : S → ℕ) (bytes : Text) (e : Stop) (found : Option (A × Text)) (other : Option (B × Text))
@@ -57,3 +58,14 @@ names-fails all ns separator k z r i h e f = i ∙ ap (behind ns) (more-fails se
 pub names-stops : (all : Option (List Text × Text)) (ns : List Text) (separator : Text) (k : ℕ) (z : Text)
     → all ≡ behind ns (more separator k z) → cut separator z ≡ None → all ≡ Some (ns, z)
 names-stops all ns separator k z i e = i ∙ ap (behind ns) (more-stops separator k z e) ∙ ap (λ r. Some (r, z)) (append-nil ns)
+
+-- ---- a name
+
+pub name-fails : (z : Text) (k : ℕ) (b : Bool) → k ≡ word_len z → b ≡ false → b ≡ is_identifier (take k z) → name z ≡ None
+name-fails z k b e f h =
+    ap (λ b. cond b (Some (take (word_len z) z, drop (word_len z) z)) None) (ap (λ k. is_identifier (take k z)) (sym e) ∙ sym h ∙ f)
+
+pub name-reads : (z : Text) (k : ℕ) (b : Bool) → k ≡ word_len z → b ≡ true → b ≡ is_identifier (take k z) → name z ≡ Some (take k z, drop k z)
+name-reads z k b e f h =
+    ap (λ b. cond b (Some (take (word_len z) z, drop (word_len z) z)) None) (ap (λ k. is_identifier (take k z)) (sym e) ∙ sym h ∙ f)
+    ∙ ap (λ k. Some (take k z, drop k z)) (sym e)

@@ -1,7 +1,8 @@
 -- The one form of a module's text that is read, and how a text of the form is written.
 use Rattle.std.specs.Prelude.{◌≡◌, ℕ, ◌+◌, ◌<◌, ◌≤◌, ◌≢◌, ◌⊎◌, true, List, [], ◌∷◌, ◌++◌, length, map, slice_index_or, codes}
 use Rattle.std.specs.List.{All, AllPairs}
-use Rattle.first_form.specs.Names.{Text, is_identifier}
+use Rattle.tla_ast.specs.Word.{is_identifier}
+use Rattle.first_form.specs.Names.{Text}
 use Rattle.first_form.specs.declared.form.FirstForm.{FirstForm}
 
 -- names with a separator before each
@@ -49,17 +50,22 @@ written module_name form = body module_name form ++ codes "\n"
 -- The names are identifiers that differ from one another, what the formula names is declared, there are at most 200 hypotheses,
 -- and the column is that of the word OBVIOUS.
 pub record IsLawful (form : FirstForm) : Type 0 where
-  pub names : All (λ n. is_identifier n ≡ true) (form.theorem ∷ form.constants)
-  pub differ : AllPairs (λ m n. m ≢ n) (form.theorem ∷ form.constants)
+  pub names : All (λ n. is_identifier n ≡ true) (form.constants ++ form.theorem ∷ [])
+  pub differ : AllPairs (λ m n. m ≢ n) (form.constants ++ form.theorem ∷ [])
   pub hypotheses : All (λ place. place < length form.constants) form.hypotheses
   pub conclusion : form.conclusion < length form.constants
   pub few : length form.hypotheses ≤ 200
   pub column : form.obvious_column ≡ length (theorem_of form) + 1
 
 -- these bytes are the form's text for a module of this name, with the last line feed or without it
-abbrev pub IsTextOf : Text → Text → FirstForm → Type 0
-IsTextOf module_name bytes form =
-    IsLawful form × (length bytes ≤ 1048576) × ((bytes ≡ written module_name form) ⊎ (bytes ++ codes "\n" ≡ written module_name form))
+pub record IsTextOf (module_name bytes : Text) (form : FirstForm) : Type 0 where
+  pub lawful : IsLawful form
+  pub short : length bytes ≤ 1048576
+  pub text : (bytes ≡ written module_name form) ⊎ (bytes ++ codes "\n" ≡ written module_name form)
+
+-- these bytes are a text of no form
+abbrev pub IsOfNoForm : Text → Text → Type 0
+IsOfNoForm module_name bytes = (form : FirstForm) → IsTextOf module_name bytes form → ⊥
 
 -- a text is of the form in at most one way
 abbrev pub IsReadOneWay : Type 0

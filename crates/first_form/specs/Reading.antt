@@ -1,12 +1,15 @@
 -- Reading from the front: each part is cut off, and what follows it is left.
 use Rattle.std.specs.Prelude.{◌≡◌, ℕ, zero, suc, ◌+◌, ◌-◌, ◌≤◌, nat_eq, nat_lt, Bool, true, false, not, ◌&&◌, ◌||◌, if◌then◌else◌, List, [], ◌∷◌, ◌++◌, length, take, drop, position, Option, Some, None, Result, Ok, Err, codes}
 use Rattle.std.specs.List.{prefix_len, starts_with, list_any}
-use Rattle.std.specs.Option.{option_and_then}
+use Rattle.std.specs.Option.{option_and_then, is_some}
 use Rattle.first_form.specs.declared.form.FirstForm.{FirstForm}
-use Rattle.first_form.specs.declared.read.FoundParts.{FoundParts}
-use Rattle.first_form.specs.declared.read.Stop.{Stop}
-use Rattle.first_form.specs.declared.read.Stop.TheVariants as stop
-use Rattle.first_form.specs.Names.{Text, is_word, is_identifier, same_text}
+use Rattle.first_form.specs.declared.places.FoundPlaces.{FoundPlaces}
+use Rattle.first_form.specs.declared.scan.FoundParts.{FoundParts}
+use Rattle.first_form.specs.declared.scan.FoundStatement.{FoundStatement}
+use Rattle.first_form.specs.declared.stop.Stop.{Stop}
+use Rattle.first_form.specs.declared.stop.Stop.TheVariants as stop
+use Rattle.tla_ast.specs.Word.{is_word_byte, is_identifier}
+use Rattle.first_form.specs.Names.{Text, same_text}
 
 -- what a step gave, unless memory ran out
 abbrev pub Gives : {R A : Type 0} → (R → A) → Result R Stop → Option A → Type 0
@@ -42,7 +45,7 @@ abbrev pub cut : Text → Text → Option Text
 cut text z = if starts_with nat_eq z text then Some (drop (length text) z) else None
 
 abbrev pub word_len : Text → ℕ
-word_len = prefix_len is_word
+word_len = prefix_len is_word_byte
 
 -- the name at the front, and what follows it
 abbrev pub name : Text → Option (Text × Text)
@@ -145,11 +148,11 @@ pub record NamedParts : Type 0 where
   pub constants : List Text
   pub statement : Statement
 
+abbrev pub of_statement : FoundStatement → Statement
+of_statement s = record { theorem = s.theorem; hypotheses = s.hypotheses; conclusion = s.conclusion; column = s.obvious_column }
+
 abbrev pub of_parts : FoundParts → NamedParts
-of_parts p = record {
-  constants = p.constants;
-  statement = record { theorem = p.statement.theorem; hypotheses = p.statement.hypotheses; conclusion = p.statement.conclusion; column = p.statement.obvious_column };
-}
+of_parts p = record { constants = p.constants; statement = of_statement p.statement }
 
 abbrev pub to_end : List Text → Statement × Text → Option NamedParts
 to_end constants s = if is_end s.1 then Some (record { constants = constants; statement = s.0 }) else None
@@ -170,6 +173,12 @@ are_new known (n ∷ ns) = if list_any (same_text n) known then false else are_n
 abbrev pub declared : List Text → Option (List Text)
 declared ns = if are_new [] ns then Some ns else None
 
+-- the name was none of these and stands behind them now, or it was one of them
+abbrev pub Adds : List Text → Text → Result (Unit {0}) Stop → List Text → Type 0
+Adds old n (Ok u) new = (list_any (same_text n) old ≡ false) × (new ≡ old ++ n ∷ [])
+Adds old n (Err stop.Memory) new = Unit {0}
+Adds old n (Err stop.NotOfForm) new = list_any (same_text n) old ≡ true
+
 -- the place of a name
 abbrev pub place : List Text → Text → Option ℕ
 place names n = position (same_text n) names
@@ -188,18 +197,34 @@ abbrev pub after_places : List ℕ → Option (List ℕ) → Option (List ℕ)
 after_places ps None = None
 after_places ps (Some more) = Some (ps ++ more)
 
--- the form of the parts, where their names are lawful
-abbrev pub placed_form : NamedParts → Option FirstForm
-placed_form p =
-    option_and_then (λ hypotheses. option_and_then (λ conclusion. Some (form hypotheses conclusion)) (place p.constants p.statement.conclusion)) (places p.constants p.statement.hypotheses)
-  where
-    form : List ℕ → ℕ → FirstForm
-    form hypotheses conclusion = record { constants = p.constants; theorem = p.statement.theorem; hypotheses = hypotheses; conclusion = conclusion; obvious_column = p.statement.column }
+-- the places of the names of a formula
+pub record Places : Type 0 where
+  pub hypotheses : List ℕ
+  pub conclusion : ℕ
+
+abbrev pub of_places : FoundPlaces → Places
+of_places p = record { hypotheses = p.hypotheses; conclusion = p.conclusion }
+
+abbrev pub with_conclusion : List ℕ → Option ℕ → Option Places
+with_conclusion hypotheses None = None
+with_conclusion hypotheses (Some conclusion) = Some (record { hypotheses = hypotheses; conclusion = conclusion })
+
+abbrev pub formula_places : List Text → Statement → Option Places
+formula_places names s = option_and_then (λ ps. with_conclusion ps (place names s.conclusion)) (places names s.hypotheses)
+
+-- the same where the theorem's name is not among these
+abbrev pub apart_places : Statement → List Text → Option Places
+apart_places s names = if is_some (place names s.theorem) then None else formula_places names s
+
+-- the places of the names of a lawful statement
+abbrev pub resolved : List Text → Statement → Option Places
+resolved constants s = if nat_lt 200 (length s.hypotheses) then None else option_and_then (apart_places s) (declared constants)
+
+abbrev pub form_of : NamedParts → Places → FirstForm
+form_of p ps = record { constants = p.constants; theorem = p.statement.theorem; hypotheses = ps.hypotheses; conclusion = ps.conclusion; obvious_column = p.statement.column }
 
 abbrev pub lawful : NamedParts → Option FirstForm
-lawful p =
-    if nat_lt 200 (length p.statement.hypotheses) then None
-    else (if are_new [] p.constants then (if list_any (same_text p.statement.theorem) p.constants then None else placed_form p) else None)
+lawful p = option_and_then (λ ps. Some (form_of p ps)) (resolved p.constants p.statement)
 
 -- the form of a text
 abbrev pub form : Text → Text → Option FirstForm
