@@ -33,7 +33,7 @@ impl<'a, R: Files> Model for FileCache<'a, R> {
 impl<'a, R: Files> FileCache<'a, R> {
     /// A device over the files that this runtime reaches.
     pub fn new(rt: &'a R) -> FileCache<'a, R>
-        ensures { result ≡ 0 }
+        ensures { ⟦<FileCache<'a, R> as CacheFile>⟧.count result ≡ 0 }
     {
         FileCache { rt, faults: 0 }
     }

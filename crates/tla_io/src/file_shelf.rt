@@ -30,7 +30,7 @@ impl<'a, R: Files> Model for FileShelf<'a, R> {
 impl<'a, R: Files> FileShelf<'a, R> {
     /// A shelf over the files that this runtime reaches.
     pub fn new(rt: &'a R) -> FileShelf<'a, R>
-        ensures { result ≡ 0 }
+        ensures { ⟦<FileShelf<'a, R> as Shelf>⟧.count result ≡ 0 }
     {
         FileShelf { rt, faults: 0 }
     }

@@ -25,6 +25,8 @@ pub mod mem_sink;
 pub mod shelf;
 pub mod sink;
 pub mod std_sink;
+#[cfg(test)]
+mod tests;
 
 pub use cache_file::CacheFile;
 pub use faults::{CacheFault, Failed, ShelfFault};

@@ -26,7 +26,7 @@ impl<W: Write + Drop> Model for StdSink<W> {
 impl<W: Write + Drop> StdSink<W> {
     /// A sink over this writer.
     pub fn new(writer: W) -> StdSink<W>
-        ensures { result ≡ 0 }
+        ensures { ⟦<StdSink<W> as Sink>⟧.count result ≡ 0 }
     {
         StdSink { writer, faults: 0 }
     }
