@@ -3,6 +3,7 @@
 
 mod comment;
 mod header;
+mod law;
 mod lexer;
 mod piece;
 mod place;
@@ -10,4 +11,8 @@ mod run;
 mod signs;
 mod string;
 
+pub use law::tokens_lie_in_the_text;
 pub use lexer::lex;
+
+#[cfg(test)]
+mod tests;
