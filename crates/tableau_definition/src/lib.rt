@@ -1,4 +1,13 @@
-//! The written search, as a definition.
+//! The written search, as a definition: branches, closings, values, the twelve ranks of rules with the unifier, turns and
+//! trees of turns, in both editions. `docs/SEARCH.md` says it in words.
+//!
+//! To the layers above this crate promises, of what `specs/` defines:
+//! a search that ends closed has a derivation of the goal from the facts, and a tree of turns that is closed for its
+//! start branch; what a closed tree uses of its branch is contradictory by itself; the unifier's answer is a most general
+//! unifier, and it answers None exactly where there is none; the bounds that definitions recurse on suffice; and what is
+//! left of all this on formulas of connectives alone.
+//!
+//! Its functions do nothing. Each is there for its contract, which is a law of the definitions.
 #![tactic(auto)]
 
 mod laws;
