@@ -1,5 +1,5 @@
 -- The laws that the contracts state, from the lemmas on either edition.
-use Rattle.std.specs.Prelude.{◌≡◌, ℕ, Bool, true, false, Option, Some, None, List, [], ◌∷◌}
+use Rattle.std.specs.Prelude.{◌≡◌, ℕ, Bool, true, false, Option, Some, None, List}
 use Rattle.std.proofs.Common.{refl, sym, ◌∙◌, subst}
 use Rattle.core_expr.specs.Tree.{Tree}
 use Rattle.tableau_definition.specs.Search.{search}
@@ -11,7 +11,7 @@ use Rattle.tableau_definition.proofs.Turned.{closed-uses, turns-sound}
 use Rattle.tableau_definition.proofs.Treed.{search-tree}
 use Rattle.tableau_definition.specs.Instances.{Binding, mgu}
 use Rattle.core_expr.specs.declared.head.Sym.{Sym}
-use Rattle.tableau_definition.specs.Unifiers.{IsUnifier, answers, StandAlone}
+use Rattle.tableau_definition.specs.Unifiers.{IsUnifier, answers}
 use Rattle.tableau_definition.proofs.Unifier.{mgu-unifies, mgu-general, mgu-complete, mgu-room}
 use Rattle.tableau_definition.proofs.Rooms.{signed-room}
 use Rattle.tableau_definition.proofs.Grown.{search-tree1}
