@@ -21,3 +21,4 @@ pub mod Grown
 pub mod Contracts
 pub mod Rooms
 pub mod Unifier
+pub mod Telling
