@@ -27,3 +27,4 @@ pub mod Reducing
 pub mod Decides
 pub mod Rooms
 pub mod Unifier
+pub mod Telling

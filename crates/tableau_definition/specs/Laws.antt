@@ -1,5 +1,5 @@
 -- What is proved of the written search. Each statement is the contract of a function of src/laws.rt.
-use Rattle.std.specs.Prelude.{◌≡◌, ℕ, ◌+◌, ◌*◌, ◌≤◌, Bool, true, Option, Some, None, List, [], ◌∷◌, ◌++◌, ◌↔◌}
+use Rattle.std.specs.Prelude.{◌≡◌, ℕ, ◌+◌, ◌*◌, ◌≤◌, Bool, true, Some, None, List, [], ◌∷◌, ◌++◌, ◌↔◌}
 use Rattle.core_expr.specs.declared.head.Sym.{Sym}
 use Rattle.core_expr.specs.declared.head.SymKind.{SymKind}
 use Rattle.core_expr.specs.Tree.{Tree, not_}
@@ -9,7 +9,9 @@ use Rattle.core_expr.specs.Put.{inst}
 use Rattle.core_expr.specs.Terms.{nodes}
 use Rattle.tableau_definition.specs.Instances.{is_meta_kind, meta, Universal, atoms, signed_atoms, Binding, unify, mgu}
 use Rattle.tableau_definition.specs.Unifiers.{assign, IsUnifier, answers, StandAlone}
-use Rattle.tableau_definition.specs.Search.{spare, search}
+use Rattle.tableau_definition.specs.Ranks.{Result}
+use Rattle.tableau_definition.specs.Told.{OneOrTwo, Told}
+use Rattle.tableau_definition.specs.Search.{first_rule, spare, search}
 use Rattle.tableau_definition.specs.Search.End.{Closed}
 use Rattle.tableau_definition.specs.Turns.{Turns, used_by, IsClosedFor}
 
@@ -55,3 +57,11 @@ NoneMeansNone = (s t : Tree) → StandAlone s → StandAlone t → (mgu s t ≡ 
 -- with room for as many rounds as there are nodes, or more, the answer is the same
 abbrev pub UnifierHasRoom : Type 0
 UnifierHasRoom = (s t : Tree) (room : ℕ) → nodes s + nodes t ≤ room → unify room [] s t ≡ mgu s t
+
+-- the rule that applies names its entry first; its rank and case tell where the entry stays live, and whether its count rises
+abbrev pub RuleTells : Type 0
+RuleTells = (w : Tree) (b : Branch) (r : Result) → first_rule w b ≡ Some r → Told b r
+
+-- the rule that applies names formulas on the branch, and has one side or two, with closed formulas
+abbrev pub RuleIsSided : Type 0
+RuleIsSided = (w : Tree) (b : Branch) (r : Result) → IsClosed w → AllClosed (formulas b) → first_rule w b ≡ Some r → HasAll (formulas b) r.step.named × OneOrTwo r.step.sides

@@ -1,5 +1,5 @@
 //! The laws of the written search. The functions do nothing: their contracts are the laws.
-ghost use Rattle.tableau_definition.specs.Laws.{ClosedDerives, ClosedHasTree, TreeRefutes, TreeDerives, AtomsHaveRoom, AnswerUnifies, AnswerIsGeneral, NoneMeansNone, UnifierHasRoom};
+ghost use Rattle.tableau_definition.specs.Laws.{ClosedDerives, ClosedHasTree, TreeRefutes, TreeDerives, AtomsHaveRoom, AnswerUnifies, AnswerIsGeneral, NoneMeansNone, UnifierHasRoom, RuleTells, RuleIsSided};
 
 /// Where the search ends closed, in either edition, the goal has a derivation from the facts.
 #[tactic(auto, using(crate::proofs::Contracts::closed_derives))]
@@ -52,4 +52,17 @@ pub fn none_means_none()
 #[tactic(auto, using(crate::proofs::Contracts::unifier_has_room))]
 pub fn unifier_has_room()
     ensures { UnifierHasRoom }
+{}
+
+/// The rule that applies names its live entry first. Its rank and case tell on which sides the entry stays live, and
+/// whether its count of instances rises.
+#[tactic(auto, using(crate::proofs::Contracts::rule_tells))]
+pub fn rule_tells()
+    ensures { RuleTells }
+{}
+
+/// The rule that applies names formulas on the branch, and gives one branch or two, with closed formulas.
+#[tactic(auto, using(crate::proofs::Contracts::rule_is_sided))]
+pub fn rule_is_sided()
+    ensures { RuleIsSided }
 {}
