@@ -4,3 +4,5 @@ pub mod Words
 pub mod Report
 pub mod Status
 pub mod Numbering
+pub mod Run
+pub mod Causes

@@ -8,6 +8,10 @@ use Rattle.core_expr.specs.Tree.Parts.{end}
 use Rattle.core_expr.specs.Nodes.{canon_sym}
 use Rattle.seq_calculus.specs.Schemas.{join_from}
 use Rattle.tableau_definition.specs.Search.{End, search}
+use Rattle.tableau_definition.specs.Search.End.{Closed, Saturated as Open, Spent as Cut}
+use Rattle.propositional_search.specs.declared.search.Answer.{Answer}
+use Rattle.propositional_search.specs.declared.search.Answer.TheVariants.{Proved, Saturated, Spent}
+use Rattle.propositional_search.specs.Answers.{valuation}
 use Rattle.proof_manager.specs.Canonical.{canonical, symbol_order}
 
 -- the symbol of a declared constant: its number is its place in the declaration
@@ -39,6 +43,16 @@ statement hypotheses conclusion = implication (map (λ n. leaf (constant_sym n))
 abbrev pub turn_limit : ℕ
 turn_limit = 100000
 
+-- the answer that the end of a search over n symbols gives
+abbrev pub answer_for : ℕ → End → Answer
+answer_for n (Closed turns) = Proved turns
+answer_for n (Open branch turns) = Saturated (valuation n branch) turns
+answer_for n (Cut turns) = Spent turns
+
 -- how the written search ends on the canonical form of a statement
-unfoldable pub answer : Tree → End
-answer t = search false (length (symbol_order t)) [] (canonical t) turn_limit
+unfoldable pub end_of : Tree → End
+end_of t = search false (length (symbol_order t)) [] (canonical t) turn_limit
+
+-- the answer to a statement
+abbrev pub answer : Tree → Answer
+answer t = answer_for (length (symbol_order t)) (end_of t)

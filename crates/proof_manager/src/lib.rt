@@ -1,11 +1,19 @@
-//! The top call: from the words of the command and the modules to the report.
+//! The top call: from the words of the command and the module to the report.
+//!
+//! To the program this crate promises `run`, whose clauses are the product's claims for the one form of text that is
+//! read so far, and the number and the text of each status.
 #![tactic(auto)]
 
 mod goal;
+mod judge;
+mod load;
 mod numbering;
+mod report;
+mod run;
 mod status;
-
+mod valuation;
 mod words;
 
+pub use run::run;
 pub use status::Status;
 pub use tla_ast::{Kind, Place};
