@@ -139,7 +139,7 @@ sub-conjoined : (s : Sym → Option Tree) (t : Tree) (us : List Tree) → sub s 
 sub-conjoined s t [] = refl
 sub-conjoined s t (u ∷ us) = sub-conjoined s (and_ t u) us
 
-sub-implication : (s : Sym → Option Tree) (hs : List Tree) (c : Tree) → sub s (implication hs c) ≡ implication (map (sub s) hs) (sub s c)
+pub sub-implication : (s : Sym → Option Tree) (hs : List Tree) (c : Tree) → sub s (implication hs c) ≡ implication (map (sub s) hs) (sub s c)
 sub-implication s [] c = refl
 sub-implication s (h ∷ hs) c = ap (λ t. imp_ t (sub s c)) (sub-conjoined s h hs)
 
@@ -150,7 +150,7 @@ renumber-constants order d (n ∷ hs) [] h = absurd h
 renumber-constants order d (n ∷ hs) (p ∷ ps) h = λ i. renumber-constant order n p d h.0 i ∷ renumber-constants order d hs ps h.1 i
 
 -- the places of the hypotheses, and that of the conclusion behind them
-first_places : (order hs : List ℕ) (c : ℕ) (ps : List ℕ) → ArePlaces order (hs ++ c ∷ []) ps → ArePlaces order hs (take (length hs) ps) × (slice_get order (slice_index_or ps (length hs) 0) ≡ Some c)
+pub first_places : (order hs : List ℕ) (c : ℕ) (ps : List ℕ) → ArePlaces order (hs ++ c ∷ []) ps → ArePlaces order hs (take (length hs) ps) × (slice_get order (slice_index_or ps (length hs) 0) ≡ Some c)
 first_places order [] c [] h = absurd h
 first_places order [] c (p ∷ ps) h = (tt, h.0)
 first_places order (n ∷ hs) c [] h = absurd h

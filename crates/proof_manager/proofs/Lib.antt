@@ -1,3 +1,4 @@
 pub mod WordLaws
 pub mod Places
 pub mod CanonicalLaws
+pub mod Justice
