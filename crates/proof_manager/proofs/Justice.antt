@@ -102,11 +102,29 @@ restore-numerals order [] (p ∷ ps) h = absurd h
 restore-numerals order (n ∷ hs) [] h = absurd h
 restore-numerals order (n ∷ hs) (p ∷ ps) h = λ i. restore-numeral order p n h.0 i ∷ restore-numerals order hs ps h.1 i
 
+AreBelow : ℕ → List ℕ → Type 0
+AreBelow n [] = Unit {0}
+AreBelow n (p ∷ ps) = (p < n) × AreBelow n ps
+
+pub get_below : (ks : List ℕ) (i n : ℕ) → slice_get ks i ≡ Some n → i < length ks
+get_below [] i n e = cc
+get_below (k ∷ ks) zero n e = omega arith
+get_below (k ∷ ks) (suc i) n e = let h : i < length ks = get_below ks i n e in omega arith
+
+below : (order hs ps : List ℕ) → ArePlaces order hs ps → AreBelow (length order) ps
+unfolding AreBelow
+below order [] [] h = tt
+below order [] (p ∷ ps) h = absurd h
+below order (n ∷ hs) [] h = absurd h
+below order (n ∷ hs) (p ∷ ps) h = (get_below order p n h.0, below order hs ps h.1)
+
 -- the canonical form of a statement, and the way back
 pub record IsOver (hs : List ℕ) (c : ℕ) : Type 0 where
   pub places : List ℕ
   pub last : ℕ
   pub form : canonical (statement hs c) ≡ implication (map numeral places) (numeral last)
+  pub below : AreBelow (length (different (hs ++ c ∷ []))) places
+  pub last_below : last < length (different (hs ++ c ∷ []))
   pub back : sub (restore (different (hs ++ c ∷ []))) (canonical (statement hs c)) ≡ statement hs c
 
 over : (hs : List ℕ) (c : ℕ) → IsOver hs c
@@ -120,6 +138,8 @@ over hs c =
       places = take (length hs) ps;
       last = slice_index_or ps (length hs) 0;
       form = form;
+      below = below order hs (take (length hs) ps) k.0;
+      last_below = get_below order (slice_index_or ps (length hs) 0) c k.1;
       back = ap (sub (restore order)) form
         ∙ sub-implication (restore order) (map numeral (take (length hs) ps)) (numeral (slice_index_or ps (length hs) 0))
         ∙ (λ i. implication (restore-numerals order hs (take (length hs) ps) k.0 i) (restore-numeral order (slice_index_or ps (length hs) 0) c k.1 i));
@@ -162,3 +182,58 @@ derives closed substitution hs c h =
     let d = closed false (length (symbol_order t)) [] (canonical t) turn_limit e.0 tt (canonical-closed hs c) e.1 in
     let r = substitution (restore (different (hs ++ c ∷ []))) [] (canonical t ∷ []) d in
     subst (λ f. Der [] (f ∷ [])) (over hs c).back r
+
+conjunction-numbered : (n : ℕ) (t : Tree) (ps : List ℕ) → IsNumbered n t → AreBelow n ps → IsNumbered n (conjunction t (map numeral ps))
+unfolding AreBelow
+conjunction-numbered n t [] h k = h
+conjunction-numbered n t (p ∷ ps) h k = conjunction-numbered n (and_ t (numeral p)) ps (h, (refl, k.0)) k.1
+
+implication-numbered : (n : ℕ) (ps : List ℕ) (m : ℕ) → AreBelow n ps → m < n → IsNumbered n (implication (map numeral ps) (numeral m))
+unfolding AreBelow
+implication-numbered n [] m h k = (refl, k)
+implication-numbered n (p ∷ ps) m h k = (conjunction-numbered n (numeral p) ps (refl, h.0) h.1, (refl, k))
+
+map-length : (ns : List ℕ) → length (map constant_sym ns) ≡ length ns
+map-length [] = refl
+map-length (n ∷ ns) = ap suc (map-length ns)
+
+-- there are as many canonical symbols as different names
+pub order-length : (hs : List ℕ) (c : ℕ) → length (symbol_order (statement hs c)) ≡ length (different (hs ++ c ∷ []))
+order-length hs c = ap length (order-statement hs c) ∙ map-length (different (hs ++ c ∷ []))
+
+-- its symbols are numbered
+canonical-numbered : (hs : List ℕ) (c : ℕ) → IsNumbered (length (symbol_order (statement hs c))) (canonical (statement hs c))
+canonical-numbered hs c =
+    let o = over hs c in
+    let n = length (different (hs ++ c ∷ [])) in
+    let h : IsNumbered n (canonical (statement hs c)) = subst (IsNumbered n) (sym o.form) (implication-numbered n o.places o.last o.below o.last_below) in
+    subst (λ m. IsNumbered m (canonical (statement hs c))) (sym (order-length hs c)) h
+
+values_of_answer : Answer → List Bool
+values_of_answer (Proved k) = []
+values_of_answer (Saturated vs k) = vs
+values_of_answer (Spent k) = []
+
+values-read : (values vs : List Bool) (turns k : ℕ) → Saturated values turns ≡ Saturated vs k → values ≡ vs
+unfolding values_of_answer
+values-read values vs turns k e = ap values_of_answer e
+
+saturated_end : (n : ℕ) (e : End) (values : List Bool) (turns : ℕ) → answer_for n e ≡ Saturated values turns → (b : Branch) × (k : ℕ) × (e ≡ Open b k) × (valuation n b ≡ values)
+saturated_end n (Closed k) values turns h = cc
+saturated_end n (Open b k) values turns h = (b, k, refl, values-read (valuation n b) values k turns h)
+saturated_end n (Cut k) values turns h = cc
+
+first-values : (k n : ℕ) (b : Branch) → values_from k n (valuation_of b) ≡ valuation_from k n b
+first-values k zero b = refl
+first-values k (suc n) b = ap (λ l. has b (numeral k) ∷ l) (first-values (suc k) n b)
+
+-- the values that are told of a statement falsify its canonical form
+pub refutes : SaturatedFalsifies → FalsifiesByNumber → (hs : List ℕ) (c : ℕ) (values : List Bool) (turns : ℕ) → answer (statement hs c) ≡ Saturated values turns → Falsifies (by_number values) [] (canonical (statement hs c))
+unfolding end_of valuation
+refutes falsifies numbers hs c values turns h =
+    let t = statement hs c in
+    let n = length (symbol_order t) in
+    let e = saturated_end n (end_of t) values turns h in
+    let f = falsifies false n [] (canonical t) turn_limit e.1 e.0 tt (canonical-formula hs c) e.2 in
+    let k = (numbers n (valuation_of e.0) [] (canonical t) tt (canonical-formula hs c) tt (canonical-numbered hs c)).1 f in
+    subst (λ vs. Falsifies (by_number vs) [] (canonical t)) (first-values 0 n e.0 ∙ e.3) k
