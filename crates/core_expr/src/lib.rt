@@ -14,6 +14,8 @@ mod memory;
 mod row;
 mod rows;
 mod spans;
+#[cfg(test)]
+mod tests;
 mod text;
 pub mod theorems;
 
