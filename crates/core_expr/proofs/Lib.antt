@@ -4,3 +4,6 @@ pub mod Formed
 pub mod FlatLaws
 pub mod SpanLaws
 pub mod BuildLaws
+pub mod PlaceLaws
+pub mod Fed
+pub mod Shown

@@ -24,7 +24,7 @@ mutual
       let l = length-append (spans_of e) (suc (nodes_of ps + nodes e) ∷ []) in
       length-append (all_spans ps) (spans_of e ++ suc (nodes_of ps + nodes e) ∷ []) ∙ (omega (arith, h, k, l))
 
-  length-all_spans : (ps : Parts) → length (all_spans ps) ≡ nodes_of ps
+  pub length-all_spans : (ps : Parts) → length (all_spans ps) ≡ nodes_of ps
   length-all_spans end = refl
   length-all_spans (part e ps) = let h = length-all_spans ps in let k = length-spans_of e in length-append (spans_of e) (all_spans ps) ∙ (omega (arith, h, k))
 
@@ -39,12 +39,12 @@ mutual
       let l = length-append (rows_at (suc d) e) (row (Binding b) [] (suc (size ps)) d ∷ []) in
       length-append (all_rows d ps) (rows_at (suc d) e ++ row (Binding b) [] (suc (size ps)) d ∷ []) ∙ (omega (arith, h, k, l))
 
-  length-all_rows : (d : ℕ) (ps : Parts) → length (all_rows d ps) ≡ nodes_of ps
+  pub length-all_rows : (d : ℕ) (ps : Parts) → length (all_rows d ps) ≡ nodes_of ps
   length-all_rows d end = refl
   length-all_rows d (part e ps) = let h = length-all_rows d ps in let k = length-rows_at d e in length-append (rows_at d e) (all_rows d ps) ∙ (omega (arith, h, k))
 
 -- by the list of parts
-nodes_in-append : (ts us : List Tree) → nodes_in (ts ++ us) ≡ nodes_in ts + nodes_in us
+pub nodes_in-append : (ts us : List Tree) → nodes_in (ts ++ us) ≡ nodes_in ts + nodes_in us
 nodes_in-append [] us = omega arith
 nodes_in-append (t ∷ ts) us = let h = nodes_in-append ts us in omega (arith, h)
 

@@ -1,7 +1,9 @@
-ghost use Rattle.std.specs.Prelude.{◌≡◌, ◌↔◌, ◌<◌, ◌++◌, length, IsTrue, IfOk};
-ghost use Rattle.core_expr.specs.Heads.{IsWellFormed, fits, make, parts_of, front, back, are_well_formed, kind_number, kind_symbol, HasBody};
+ghost use Rattle.std.specs.Prelude.{◌≡◌, ◌↔◌, ◌<◌, ◌++◌, length, slice_index_or, IsTrue, IfOk};
+ghost use Rattle.core_expr.specs.Tree.{true_};
+ghost use Rattle.core_expr.specs.Heads.{IsWellFormed, fits, make, parts_of, front, back, are_well_formed, subtrees, kind_number, kind_symbol, HasBody};
 ghost use Rattle.core_expr.specs.Flat.{rows_of, rows_at, tree_of, row_at};
 ghost use Rattle.core_expr.specs.Spans.{spans_of, spans_in, rows_in, rows_under};
+ghost use Rattle.core_expr.specs.Places.{subtree, kind_of, root_numbers, part_index, RootAt};
 ghost use Rattle.core_expr.specs.Put.{inst, IsScoped};
 
 use crate::forest::Forest;
@@ -10,7 +12,7 @@ use crate::kinds::{kind_for, kind_number, kind_symbol};
 use crate::memory::Memory;
 use crate::row::{Row, RowKind};
 use crate::rows::{are_rows_scoped, copy_rows, replace_all, same_rows};
-use crate::spans::spans_of;
+use crate::spans::{back_over, spans_of};
 use sqlite_items::Items;
 use std::alloc::Global;
 use std::marker::Model;
@@ -134,6 +136,22 @@ impl Expr {
         Forest { rows, spans }
     }
 
+    /// The node `i`.
+    fn row(&self, i: u64) -> &Row
+        requires { i < length (rows_of self.now) }
+        ensures row { result.now ≡ row_at self.now i }
+        ensures root { RootAt self.now i }
+    {
+        &self.rows.as_slice()[i as usize]
+    }
+
+    /// The nodes.
+    pub(crate) fn rows(&self) -> &[Row]
+        ensures { result.now ≡ rows_of self.now }
+    {
+        self.rows.as_slice()
+    }
+
     /// The number of nodes.
     pub fn length(&self) -> u64
         ensures value { result ≡ length (rows_of self.now) }
@@ -145,33 +163,50 @@ impl Expr {
     /// The head number of the node `i`.
     pub fn head(&self, i: u64) -> u64
         requires { i < length (rows_of self.now) }
-        ensures { result ≡ kind_number (row_at self.now i).kind }
+        ensures row { result ≡ kind_number (row_at self.now i).kind }
+        ensures tree { result ≡ kind_number (kind_of (subtree self.now i)) }
     {
-        kind_number(self.rows.as_slice()[i as usize].kind)
+        kind_number(self.row(i).kind)
     }
 
     /// The symbol of the node `i`: None exactly where its head number is not 6.
     pub fn sym(&self, i: u64) -> Option<Sym>
         requires { i < length (rows_of self.now) }
-        ensures { result ≡ kind_symbol (row_at self.now i).kind }
+        ensures row { result ≡ kind_symbol (row_at self.now i).kind }
+        ensures tree { result ≡ kind_symbol (kind_of (subtree self.now i)) }
     {
-        kind_symbol(self.rows.as_slice()[i as usize].kind)
+        kind_symbol(self.row(i).kind)
     }
 
     /// The numbers of the node `i`, as `build` takes them.
     pub fn numbers(&self, i: u64) -> &[u64]
         requires { i < length (rows_of self.now) }
-        ensures { result.now ≡ (row_at self.now i).numbers }
+        ensures row { result.now ≡ (row_at self.now i).numbers }
+        ensures tree { result.now ≡ root_numbers (subtree self.now i) }
     {
-        self.rows.as_slice()[i as usize].numbers.as_slice()
+        self.row(i).numbers.as_slice()
     }
 
     /// How many parts the node `i` has.
     pub fn parts(&self, i: u64) -> u64
         requires { i < length (rows_of self.now) }
-        ensures { result ≡ (row_at self.now i).parts }
+        ensures row { result ≡ (row_at self.now i).parts }
+        ensures tree { result ≡ length (subtrees (subtree self.now i)) }
     {
-        self.rows.as_slice()[i as usize].parts
+        self.row(i).parts
+    }
+
+    /// The place of the part `k` of the node `i`, from 0. Its cost is that of stepping over the later parts.
+    pub fn part(&self, i: u64, k: u64) -> u64
+        requires node { i < length (rows_of self.now) }
+        requires part { k < (row_at self.now i).parts }
+        ensures value { result ≡ part_index self.now i k }
+        ensures before { result < i }
+        ensures tree { subtree self.now result ≡ slice_index_or (subtrees (subtree self.now i)) k true_ }
+    {
+        let after = self.parts(i) - 1 - k;
+        let end = back_over(self.spans.as_slice(), after, i as usize);
+        end as u64 - 1
     }
 
     /// Whether the two are equal.

@@ -4,6 +4,8 @@
 //! with their laws, and texts.
 #![tactic(auto)]
 
+mod canon;
+mod compare;
 mod expr;
 mod forest;
 mod head;
@@ -13,7 +15,9 @@ mod row;
 mod rows;
 mod spans;
 mod text;
+pub mod theorems;
 
+pub use canon::Canon;
 pub use expr::Expr;
 pub use head::{Binder, Head, Sym, SymKind};
 pub use memory::Memory;
