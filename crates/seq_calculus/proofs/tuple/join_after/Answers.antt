@@ -1,0 +1,9 @@
+use Rattle.std.proofs.Common.{◌≡◌, [], rules}
+use Rattle.core_expr.specs.Tree.{Tree}
+use Rattle.core_expr.specs.Tree.Tree.{node}
+use Rattle.core_expr.specs.Tree.Parts.{end, part}
+use Rattle.seq_calculus.proofs.Listed.{join_step}
+use Rattle.seq_calculus.proofs.tuple.join_after.Goals as goal
+
+pub loop-item-preserved : goal.loop-item-preserved
+loop-item-preserved c = join_step (λ (a : Tree) (b : Tree). node c.args.connective [] (part a (part b end))) c.args.first.now c.args.rest.now c.loop-item.item-index c.item-item.result _ _ c.loop-item-test.true c.item-item.is c.loop-item.invariant ?
