@@ -72,7 +72,7 @@ pub place-of : (names : List Text) (k : ℕ) → Differ names → k < length nam
 place-of names k h lt =
     let n : Text = name_at names k in
     let is : position_or_len (same_text n) names ≡ k =
-        position_or_len_is (same_text n) names k [] (omega arith) (λ j below. other n (get_or names j []) (λ e. h j k [] below lt (sym e))) (λ _. same-refl n) in
+    position_or_len_is (same_text n) names k [] (omega arith) (λ j below. other n (get_or names j []) (λ e. h j k [] below lt (sym e))) (λ _. same-refl n) in
     ap (λ i. cond (nat_lt i (length names)) (Some i) None) is ∙ ap (λ b. cond b (Some k) None) (lt-ltb k (length names) lt)
 
 pub places-sound : (names ns : List Text) (ps : List ℕ) → places names ns ≡ Some ps → All (λ p. p < length names) ps × (map (name_at names) ps ≡ ns)

@@ -19,7 +19,7 @@ loop-next-preserved c =
     let pushed : c.push-in-Some.new.self ≡ old ++ c.in_ok-one.one.text ∷ [] = c.in_ok-push-2.ensures.ok in
     let longer : length (old ++ c.in_ok-one.one.text ∷ []) ≡ length old + 1 = length-append {A = Text} old (c.in_ok-one.one.text ∷ []) in
     let fuel : length c.args.bytes.now - c.args.at + 1 - length old ≡ suc (length c.args.bytes.now - c.args.at + 1 - length (old ++ c.in_ok-one.one.text ∷ [])) =
-        omega (arith, longer, step.value.1, step.place, c.loop-next.invariant.count, c.requires.some) in
+    omega (arith, longer, step.value.1, step.place, c.loop-next.invariant.count, c.requires.some) in
     rw pushed record {
       value = names-next _ _ _ _ _ _ _ _ _ c.loop-next.invariant.value fuel step.value.0 c.in_ok-one.ensures.value.0;
       within = c.in_ok-one.ensures.value.1;
