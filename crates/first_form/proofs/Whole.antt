@@ -1,16 +1,16 @@
 -- What the reader answers is a form of the text, and each form of the text is what it answers.
-use Rattle.std.proofs.Common.{◌≡◌, ◌≢◌, ℕ, zero, suc, ◌+◌, ◌-◌, ◌<◌, ◌≤◌, ◌⊎◌, inl, inr, Bool, true, false, cond, not, nat_lt, List, [], ◌∷◌, ◌++◌, map, length, get_or, Option, Some, None, refl, sym, ap, ◌∙◌, arith, subst, append_assoc, length-append, codes}
-use Rattle.std.specs.List.{All, AllPairs}
+use Rattle.std.proofs.Common.{◌≡◌, ℕ, suc, ◌+◌, ◌<◌, ◌≤◌, ◌⊎◌, inl, inr, Bool, true, false, cond, nat_lt, List, [], ◌∷◌, ◌++◌, map, length, Option, Some, None, refl, sym, ap, ◌∙◌, arith, subst, append_assoc, codes}
+use Rattle.std.specs.List.{All}
 use Rattle.std.specs.Option.{option_and_then, is_some}
 use Rattle.std.proofs.lemmas.List.{append-nil, append_cancel_right}
-use Rattle.std.proofs.lemmas.List.Elements.{All-head, All-tail, All-cons, All-nil, All-get_or, All-from_get_or, All-append}
-use Rattle.std.proofs.lemmas.Bool.{true≢false, lt-ltb, le-ltb}
+use Rattle.std.proofs.lemmas.List.Elements.{All-head, All-tail, All-cons, All-nil, All-get_or, All-append}
+use Rattle.std.proofs.lemmas.Bool.{le-ltb}
 use Rattle.first_form.specs.declared.form.FirstForm.{FirstForm}
 use Rattle.first_form.specs.Names.{Text}
-use Rattle.first_form.specs.Form.{name_at, theorem_of, constants_line, before_obvious, body, written, IsLawful, IsTextOf, IsOfNoForm}
+use Rattle.first_form.specs.Form.{name_at, theorem_of, constants_line, before_obvious, body, written, IsTextOf, IsOfNoForm}
 use Rattle.first_form.specs.Reading as reading
 use Rattle.first_form.specs.Reading.{Statement, NamedParts, Places, are_new, declared, place, places}
-use Rattle.first_form.proofs.Cuts.{IsName, some-out, none-out, which, then-out}
+use Rattle.first_form.proofs.Cuts.{IsName, some-out, none-out, then-out}
 use Rattle.first_form.proofs.Lines.{Whole, parts-sound, parts-append}
 use Rattle.first_form.proofs.Order.{Differ, new-sound, new-append, places-sound, places-of, place-sound, place-of, differ-first, differ-last, differ-all}
 

@@ -1,9 +1,9 @@
-use Rattle.std.proofs.Common.{◌≡◌, ◌+◌, ◌-◌, ◌≤◌, ◌<◌, List, length, drop, suc, arith, ℕ, ap, ◌∙◌, sym, [], ◌∷◌, ◌++◌, length-append, length-drop}
+use Rattle.std.proofs.Common.{◌≡◌, ◌+◌, ◌-◌, ◌<◌, length, drop, suc, arith, [], ◌∷◌, ◌++◌, length-append}
 use Rattle.first_form.specs.Names.{Text}
 use Rattle.first_form.specs.declared.scan.FoundName.{FoundName}
 use Rattle.first_form.specs.declared.scan.FoundNames.{FoundNames}
 use Rattle.first_form.specs.Reading as reading
-use Rattle.first_form.proofs.Steps.{stops-at, names-first, names-next, names-fails, names-stops}
+use Rattle.first_form.proofs.Steps.{stops-at, names-next, names-fails, names-stops}
 use Rattle.first_form.proofs.scan.names.Goals as goal
 
 pub returns-in_err-one-clause-value : goal.returns-in_err-one-clause-value
