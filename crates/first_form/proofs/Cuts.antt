@@ -1,12 +1,12 @@
 -- What is cut off the front is what stands there, and the other way round.
-use Rattle.std.proofs.Common.{◌≡◌, ℕ, zero, suc, ◌+◌, ◌-◌, ◌≤◌, ◌<◌, ◌⊎◌, inl, inr, Bool, true, false, cond, not, ◌&&◌, nat_eq, nat_lt, List, [], ◌∷◌, ◌++◌, length, take, drop, Option, Some, None, refl, sym, ap, ◌∙◌, arith, append_assoc, subst, codes, length-append}
+use Rattle.std.proofs.Common.{◌≡◌, ℕ, zero, suc, ◌+◌, ◌≤◌, ◌<◌, ◌⊎◌, inl, inr, Bool, true, false, cond, ◌&&◌, nat_eq, List, [], ◌∷◌, ◌++◌, length, take, drop, Option, Some, None, refl, sym, ap, ◌∙◌, arith, append_assoc, subst, length-append}
 use Rattle.std.proofs.Math.Seq.{drop-append_seam, take-append_seam}
 use Rattle.std.proofs.lemmas.List.{take-append-drop}
 use Rattle.std.proofs.lemmas.List.Elements.{All-head, All-tail, All-cons, All-nil}
 use Rattle.std.proofs.lemmas.Slice.Eq.{starts_is}
 use Rattle.std.proofs.lemmas.Bool.Decides.{Decides-eqb}
 use Rattle.std.proofs.lemmas.Bool.{true≢false}
-use Rattle.std.specs.List.{All, list_all, list_any, prefix_len, starts_with}
+use Rattle.std.specs.List.{All, list_all, starts_with}
 use Rattle.std.specs.Option.{option_and_then}
 use Rattle.tla_ast.specs.Word.{is_word_byte, is_identifier}
 use Rattle.first_form.specs.Names.{Text}
@@ -108,7 +108,7 @@ more-append separator (n ∷ ns) r zero h a le = absurd (omega arith)
 more-append separator (n ∷ ns) r (suc k) h a le =
     let rest : Text = followed separator ns ++ r in
     let z : (separator ++ (n ++ followed separator ns)) ++ r ≡ separator ++ (n ++ rest) =
-        append_assoc separator (n ++ followed separator ns) r ∙ ap (λ x. separator ++ x) (append_assoc n (followed separator ns) r) in
+    append_assoc separator (n ++ followed separator ns) r ∙ ap (λ x. separator ++ x) (append_assoc n (followed separator ns) r) in
     let first : name (n ++ rest) ≡ Some (n, rest) = name-append n rest (All-head IsName n ns a) (followed-apart separator ns r h) in
     ap (more separator (suc k)) z ∙ more-next separator (suc k) k _ _ _ _ refl (cut-append separator (n ++ rest)) first
     ∙ ap (with_front n) (more-append separator ns r k h (All-tail IsName n ns a) (omega arith))
@@ -146,14 +146,16 @@ more-sound separator (suc k) z p e = by_cut (λ z t m. more-sound separator k z 
         let one = name-sound r q n in
         let rest = ih q.1 t m in
         let whole : z ≡ (separator ++ (q.0 ++ followed separator t.0)) ++ t.1 =
-            cut-sound separator z r c ∙ ap (λ x. separator ++ x) (one.0 ∙ ap (λ x. q.0 ++ x) rest.0 ∙ sym (append_assoc q.0 (followed separator t.0) t.1))
-            ∙ sym (append_assoc separator (q.0 ++ followed separator t.0) t.1) in
+        cut-sound separator z r c ∙ ap (λ x. separator ++ x) (one.0 ∙ ap (λ x. q.0 ++ x) rest.0 ∙ sym (append_assoc q.0 (followed separator t.0) t.1))
+        ∙ sym (append_assoc separator (q.0 ++ followed separator t.0) t.1) in
         subst (Told separator z) is (whole, All-cons IsName q.0 t.0 one.1 rest.1)
+
     by_name : ((z : Text) (t : List Text × Text) → more separator k z ≡ Some t → Told separator z t) → (r : Text) → cut separator z ≡ Some r → (name r ≡ None) ⊎ ((q : Text × Text) × (name r ≡ Some q)) → Told separator z p
     by_name ih r c (inl n) = absurd (none-out p (sym (more-fails separator (suc k) z r (omega arith) c n) ∙ e))
     by_name ih r c (inr (q, n)) =
         let out = front-out q.0 (more separator k q.1) p (sym (more-next separator (suc k) k z r q.1 q.0 refl c n) ∙ e) in
         by_tail ih r q c n out.0 out.1 out.2
+
     by_cut : ((z : Text) (t : List Text × Text) → more separator k z ≡ Some t → Told separator z t) → (cut separator z ≡ None) ⊎ ((r : Text) × (cut separator z ≡ Some r)) → Told separator z p
     by_cut ih (inl c) = subst (Told separator z) (some-out ([], z) p (sym (more-stops separator (suc k) z c) ∙ e)) (refl, All-nil IsName)
     by_cut ih (inr (r, c)) = by_name ih r c (which (name r))
@@ -175,6 +177,6 @@ names-sound separator z p e =
     let all : AreNames separator z (q.0 ∷ t.0, t.1) = record {
       text = one.0 ∙ ap (λ x. q.0 ++ x) rest.0 ∙ sym (append_assoc q.0 (followed separator t.0) t.1);
       names = All-cons IsName q.0 t.0 one.1 rest.1;
-      some = omega arith
+      some = omega arith;
     } in
     subst (AreNames separator z) b.2 all

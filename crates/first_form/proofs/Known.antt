@@ -1,10 +1,9 @@
 -- Names by place: lists of names behind references.
-use Rattle.std.proofs.Common.{◌≡◌, ℕ, zero, suc, ◌+◌, ◌<◌, ◌≤◌, Bool, true, false, cond, not, ◌||◌, nat_lt, List, [], ◌∷◌, ◌++◌, map, length, take, drop, get_or, Option, Some, None, Result, Ok, Err, refl, sym, ap, ◌∙◌, arith}
+use Rattle.std.proofs.Common.{◌≡◌, suc, ◌+◌, Bool, true, false, cond, not, ◌||◌, nat_lt, List, [], ◌∷◌, ◌++◌, map, length, Some, None, refl, sym, ap, ◌∙◌}
 use Rattle.std.specs.List.{list_any, position, position_or_len}
-use Rattle.std.proofs.Math.Seq.{drop-cons}
 use Rattle.std.proofs.lemmas.Bool.{true≢false}
 use Rattle.first_form.specs.Names.{Text, same_text}
-use Rattle.first_form.specs.Reading.{are_new, place, places, placed, after_places}
+use Rattle.first_form.specs.Reading.{are_new, place}
 
 any-map : {K : Type 0} (f : K → Text) (n : Text) (ks : List K) → list_any (λ k. same_text n (f k)) ks ≡ list_any (same_text n) (map f ks)
 any-map f n [] = refl

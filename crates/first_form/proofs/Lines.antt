@@ -1,6 +1,6 @@
 -- The lines of a text: what is read is what is written, and the other way round.
-use Rattle.std.proofs.Common.{◌≡◌, ℕ, zero, suc, ◌+◌, ◌-◌, ◌≤◌, ◌<◌, ◌⊎◌, inl, inr, Bool, true, false, cond, not, ◌&&◌, ◌||◌, nat_eq, nat_lt, List, [], ◌∷◌, ◌++◌, length, take, drop, Option, Some, None, refl, sym, ap, ◌∙◌, arith, append_assoc, subst, codes, length-append}
-use Rattle.std.proofs.lemmas.List.Elements.{All-head, All-tail, All-cons, All-nil}
+use Rattle.std.proofs.Common.{◌≡◌, ◌+◌, ◌-◌, ◌≤◌, ◌<◌, ◌⊎◌, inl, inr, Bool, true, false, cond, ◌||◌, nat_lt, List, [], ◌∷◌, ◌++◌, length, Some, None, refl, sym, ap, ◌∙◌, arith, append_assoc, subst, codes, length-append}
+use Rattle.std.proofs.lemmas.List.Elements.{All-head, All-cons, All-nil}
 use Rattle.std.specs.Cmp.Lexicographic.{same_text as same_text_told}
 use Rattle.std.proofs.lemmas.Bool.{le-ltb, true≢false}
 use Rattle.std.specs.List.{All}
@@ -37,7 +37,7 @@ single-sound z r p c e =
     let all : Declares z (q.0 ∷ [], q.1) = record {
       text = cut-sound (codes "CONSTANT ") z r c ∙ ap (λ x. codes "CONSTANT " ++ x) one.0 ∙ sym (append_assoc (codes "CONSTANT ") q.0 q.1);
       names = All-cons IsName q.0 [] one.1 (All-nil IsName);
-      some = omega arith
+      some = omega arith;
     } in
     subst (Declares z) (some-out (q.0 ∷ [], q.1) p a.2) all
 
@@ -60,7 +60,7 @@ several-sound z r p c e =
       text = cut-sound (codes "CONSTANTS ") z r c ∙ ap (λ x. codes "CONSTANTS " ++ x) told.text ∙ sym (append_assoc (codes "CONSTANTS ") (joined (codes ", ") q.0) q.1)
           ∙ ap (λ x. x ++ q.1) (sym (many-line q.0 b.0));
       names = told.names;
-      some = told.some
+      some = told.some;
     } in
     subst (Declares z) b.1 all
 
@@ -122,7 +122,7 @@ alone-sound z (n ∷ []) rest p a e =
     let all : Reads z (record { hypotheses = []; conclusion = n }) rest = record {
       text = a.text ∙ ap (λ x. x ++ rest) (append-nil n);
       hypotheses = All-nil IsName;
-      conclusion = All-head IsName n [] a.names
+      conclusion = All-head IsName n [] a.names;
     } in
     subst (λ q. Reads z q.0 q.1) (some-out (record { hypotheses = []; conclusion = n }, rest) p e) all
 alone-sound z (n ∷ m ∷ ns) rest p a e = absurd (none-out p e)
@@ -142,7 +142,7 @@ arrow-sound z r a p f h c e =
       text = h.text ∙ ap (λ x. hs ++ x) (cut-sound (codes " => ") a.1 r c ∙ ap (λ x. codes " => " ++ x) one.0 ∙ sym (append_assoc (codes " => ") q.0 q.1))
           ∙ sym (append_assoc hs (codes " => " ++ q.0) q.1) ∙ ap (λ x. x ++ q.1) (sym (implied a.0 q.0 h.some));
       hypotheses = h.names;
-      conclusion = one.1
+      conclusion = one.1;
     } in
     subst (λ q. Reads z q.0 q.1) (some-out (record { hypotheses = a.0; conclusion = q.0 }, q.1) f b.2) all
 
@@ -152,6 +152,7 @@ formula-sound z f e = by_names (which (names (codes " /\\ ") z))
     by_arrow : (p : List Text × Text) → names (codes " /\\ ") z ≡ Some p → (cut (codes " => ") p.1 ≡ None) ⊎ ((r : Text) × (cut (codes " => ") p.1 ≡ Some r)) → Reads z f.0 f.1
     by_arrow p n (inl c) = alone-sound z p.0 p.1 f (names-sound (codes " /\\ ") z p n) (sym (formula-alone z p n c) ∙ e)
     by_arrow p n (inr (r, c)) = arrow-sound z r p p f (names-sound (codes " /\\ ") z p n) c (sym (formula-arrow z r p n c) ∙ e)
+
     by_names : (names (codes " /\\ ") z ≡ None) ⊎ ((p : List Text × Text) × (names (codes " /\\ ") z ≡ Some p)) → Reads z f.0 f.1
     by_names (inl n) = absurd (none-out f (sym (rw n refl) ∙ e))
     by_names (inr (p, n)) = by_arrow p n (which (cut (codes " => ") p.1))
@@ -164,14 +165,14 @@ pub formula-append : (ns : List Text) (conclusion r : Text) → All IsName ns �
     → reading.formula (spec.formula ns conclusion ++ formula_end r) ≡ Some (record { hypotheses = ns; conclusion = conclusion }, formula_end r)
 formula-append [] conclusion r a h =
     let one : names (codes " /\\ ") (joined (codes " /\\ ") (conclusion ∷ []) ++ formula_end r) ≡ Some (conclusion ∷ [], formula_end r) =
-        names-append (codes " /\\ ") conclusion [] (formula_end r) (record { some = omega arith; apart = λ x. refl; ended = refl; last = refl }) (All-cons IsName conclusion [] h (All-nil IsName)) in
+    names-append (codes " /\\ ") conclusion [] (formula_end r) (record { some = omega arith; apart = λ x. refl; ended = refl; last = refl }) (All-cons IsName conclusion [] h (All-nil IsName)) in
     ap (λ x. reading.formula (x ++ formula_end r)) (sym (append-nil conclusion)) ∙ formula-alone (joined (codes " /\\ ") (conclusion ∷ []) ++ formula_end r) (conclusion ∷ [], formula_end r) one refl
 formula-append (n ∷ ns) conclusion r a h =
     let rest : Text = codes " => " ++ (conclusion ++ formula_end r) in
     let all : names (codes " /\\ ") (joined (codes " /\\ ") (n ∷ ns) ++ rest) ≡ Some (n ∷ ns, rest) =
-        names-append (codes " /\\ ") n ns rest (record { some = omega arith; apart = λ x. refl; ended = refl; last = refl }) a in
+    names-append (codes " /\\ ") n ns rest (record { some = omega arith; apart = λ x. refl; ended = refl; last = refl }) a in
     let z : spec.formula (n ∷ ns) conclusion ++ formula_end r ≡ joined (codes " /\\ ") (n ∷ ns) ++ rest =
-        append_assoc (joined (codes " /\\ ") (n ∷ ns)) (codes " => " ++ conclusion) (formula_end r) ∙ ap (λ x. joined (codes " /\\ ") (n ∷ ns) ++ x) (append_assoc (codes " => ") conclusion (formula_end r)) in
+    append_assoc (joined (codes " /\\ ") (n ∷ ns)) (codes " => " ++ conclusion) (formula_end r) ∙ ap (λ x. joined (codes " /\\ ") (n ∷ ns) ++ x) (append_assoc (codes " => ") conclusion (formula_end r)) in
     ap reading.formula z ∙ formula-arrow (joined (codes " /\\ ") (n ∷ ns) ++ rest) (conclusion ++ formula_end r) (n ∷ ns, rest) all (cut-append (codes " => ") (conclusion ++ formula_end r))
     ∙ ap (option_and_then (λ q. Some (record { hypotheses = n ∷ ns; conclusion = q.0 }, q.1))) (name-append conclusion (formula_end r) h refl)
 
@@ -192,7 +193,7 @@ title-sound z t e =
     let c = then-out {B = Text × Text} (λ r. Some (q.0, r)) (cut (codes " == ") q.1) t a.2 in
     let one = name-sound b.0 q b.2 in
     let whole : z ≡ codes "THEOREM " ++ (q.0 ++ (codes " == " ++ c.0)) =
-        cut-sound (codes "THEOREM ") z b.0 b.1 ∙ ap (λ x. codes "THEOREM " ++ x) (one.0 ∙ ap (λ x. q.0 ++ x) (cut-sound (codes " == ") q.1 c.0 c.1)) in
+    cut-sound (codes "THEOREM ") z b.0 b.1 ∙ ap (λ x. codes "THEOREM " ++ x) (one.0 ∙ ap (λ x. q.0 ++ x) (cut-sound (codes " == ") q.1 c.0 c.1)) in
     subst (λ t. (z ≡ codes "THEOREM " ++ (t.0 ++ (codes " == " ++ t.1))) × IsName t.0) (some-out (q.0, c.0) t c.2) (whole, one.1)
 
 before-append : (theorem : Text) (hs : List Text) (conclusion rest : Text)
@@ -201,9 +202,9 @@ before-append theorem hs conclusion rest =
     let f : Text = spec.formula hs conclusion in
     let last : f ++ formula_end rest ≡ (f ++ codes " ") ++ (codes "OBVIOUS" ++ rest) = sym (append_assoc f (codes " ") (codes "OBVIOUS" ++ rest)) in
     let sign : codes " == " ++ (f ++ formula_end rest) ≡ (codes " == " ++ (f ++ codes " ")) ++ (codes "OBVIOUS" ++ rest) =
-        ap (λ x. codes " == " ++ x) last ∙ sym (append_assoc (codes " == ") (f ++ codes " ") (codes "OBVIOUS" ++ rest)) in
+    ap (λ x. codes " == " ++ x) last ∙ sym (append_assoc (codes " == ") (f ++ codes " ") (codes "OBVIOUS" ++ rest)) in
     let named : theorem ++ (codes " == " ++ (f ++ formula_end rest)) ≡ (theorem ++ (codes " == " ++ (f ++ codes " "))) ++ (codes "OBVIOUS" ++ rest) =
-        ap (λ x. theorem ++ x) sign ∙ sym (append_assoc theorem (codes " == " ++ (f ++ codes " ")) (codes "OBVIOUS" ++ rest)) in
+    ap (λ x. theorem ++ x) sign ∙ sym (append_assoc theorem (codes " == " ++ (f ++ codes " ")) (codes "OBVIOUS" ++ rest)) in
     ap (λ x. codes "THEOREM " ++ x) named ∙ sym (append_assoc (codes "THEOREM ") (theorem ++ (codes " == " ++ (f ++ codes " "))) (codes "OBVIOUS" ++ rest))
 
 column-is : (z before rest : Text) → z ≡ before ++ (codes "OBVIOUS" ++ rest) → 1 ≤ length before → length z - length (formula_end rest) + 2 ≡ length before + 1
@@ -228,19 +229,19 @@ statement-sound z s e =
     let told = formula-sound t.1 f b.1 in
     let last : f.1 ≡ formula_end rest = cut-sound (codes " OBVIOUS") f.1 rest c.1 in
     let whole : z ≡ before_obvious t.0 f.0.hypotheses f.0.conclusion ++ (codes "OBVIOUS" ++ rest) =
-        title.0 ∙ ap (λ x. codes "THEOREM " ++ (t.0 ++ (codes " == " ++ x))) (told.text ∙ ap (λ x. spec.formula f.0.hypotheses f.0.conclusion ++ x) last) ∙ before-append t.0 f.0.hypotheses f.0.conclusion rest in
+    title.0 ∙ ap (λ x. codes "THEOREM " ++ (t.0 ++ (codes " == " ++ x))) (told.text ∙ ap (λ x. spec.formula f.0.hypotheses f.0.conclusion ++ x) last) ∙ before-append t.0 f.0.hypotheses f.0.conclusion rest in
     let all : States z (reading.stated z t f rest).0 rest = record {
       text = whole;
       theorem = title.1;
       hypotheses = told.hypotheses;
       conclusion = told.conclusion;
-      column = ap (λ x. length z - length x + 2) last ∙ column-is z (before_obvious t.0 f.0.hypotheses f.0.conclusion) rest whole (before-some t.0 f.0.hypotheses f.0.conclusion)
+      column = ap (λ x. length z - length x + 2) last ∙ column-is z (before_obvious t.0 f.0.hypotheses f.0.conclusion) rest whole (before-some t.0 f.0.hypotheses f.0.conclusion);
     } in
     subst (λ s. States z s.0 s.1) (some-out (reading.stated z t f rest) s c.2) all
 
 pub statement-append : (theorem : Text) (hs : List Text) (conclusion rest : Text) → IsName theorem → All IsName hs → IsName conclusion
     → reading.statement (before_obvious theorem hs conclusion ++ (codes "OBVIOUS" ++ rest))
-        ≡ Some (record { theorem = theorem; hypotheses = hs; conclusion = conclusion; column = length (before_obvious theorem hs conclusion) + 1 }, rest)
+    ≡ Some (record { theorem = theorem; hypotheses = hs; conclusion = conclusion; column = length (before_obvious theorem hs conclusion) + 1 }, rest)
 statement-append theorem hs conclusion rest a b c =
     let f : Text = spec.formula hs conclusion ++ formula_end rest in
     let z : Text = codes "THEOREM " ++ (theorem ++ (codes " == " ++ f)) in
@@ -249,7 +250,7 @@ statement-append theorem hs conclusion rest a b c =
     let named : name (theorem ++ (codes " == " ++ f)) ≡ Some (theorem, codes " == " ++ f) = name-append theorem (codes " == " ++ f) a refl in
     let sign : cut (codes " == ") (codes " == " ++ f) ≡ Some f = cut-append (codes " == ") f in
     let title : reading.title z ≡ Some (theorem, f) =
-        ap (option_and_then (λ t. option_and_then (λ r. Some (t.0, r)) (cut (codes " == ") t.1))) (ap (option_and_then name) front ∙ named) ∙ ap (option_and_then (λ r. Some (theorem, r))) sign in
+    ap (option_and_then (λ t. option_and_then (λ r. Some (t.0, r)) (cut (codes " == ") t.1))) (ap (option_and_then name) front ∙ named) ∙ ap (option_and_then (λ r. Some (theorem, r))) sign in
     let formula : reading.formula f ≡ Some (record { hypotheses = hs; conclusion = conclusion }, formula_end rest) = formula-append hs conclusion rest b c in
     let last : cut (codes " OBVIOUS") (formula_end rest) ≡ Some rest = cut-append (codes " OBVIOUS") rest in
     let column = column-is z (before_obvious theorem hs conclusion) rest (sym same) (before-some theorem hs conclusion) in
@@ -298,6 +299,7 @@ end-sound z e = by_cut (which (cut (codes "\n====") z))
     by_last : (r : Text) → (same_text r [] ≡ true) ⊎ (same_text r (codes "\n") ≡ true) → (r ≡ []) ⊎ (r ≡ codes "\n")
     by_last r (inl h) = inl (same-out r [] h)
     by_last r (inr h) = inr (same-out r (codes "\n") h)
+
     by_cut : (cut (codes "\n====") z ≡ None) ⊎ ((r : Text) × (cut (codes "\n====") z ≡ Some r)) → (tail : Text) × (z ≡ codes "\n====" ++ tail) × ((tail ≡ []) ⊎ (tail ≡ codes "\n"))
     by_cut (inl c) = absurd (true≢false (sym e ∙ (rw c refl)))
     by_cut (inr (r, c)) =
@@ -333,14 +335,14 @@ parts-sound module_name z p e =
       names = second.names;
       some = second.some;
       theorem = third.theorem;
-      column = third.column
+      column = third.column;
     } in
     subst (λ q. (tail : Text) × Whole module_name z q tail) g.1 (last.0, whole)
 
 pub parts-append : (module_name tail : Text) (cs : List Text) (theorem : Text) (hs : List Text) (conclusion : Text) → (tail ≡ []) ⊎ (tail ≡ codes "\n")
     → All IsName cs → 0 < length cs → IsName theorem → All IsName hs → IsName conclusion
     → reading.parts module_name (codes "---- MODULE " ++ (module_name ++ (codes " ----\n" ++ (constants_line cs ++ (codes "\n" ++ (before_obvious theorem hs conclusion ++ (codes "OBVIOUS" ++ (codes "\n====" ++ tail))))))))
-        ≡ Some (record { constants = cs; statement = record { theorem = theorem; hypotheses = hs; conclusion = conclusion; column = length (before_obvious theorem hs conclusion) + 1 } })
+    ≡ Some (record { constants = cs; statement = record { theorem = theorem; hypotheses = hs; conclusion = conclusion; column = length (before_obvious theorem hs conclusion) + 1 } })
 parts-append module_name tail cs theorem hs conclusion t a some n h c =
     let end : Text = codes "\n====" ++ tail in
     let third : Text = before_obvious theorem hs conclusion ++ (codes "OBVIOUS" ++ end) in

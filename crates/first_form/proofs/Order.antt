@@ -1,7 +1,6 @@
 -- Names that differ from one another, and their places.
-use Rattle.std.proofs.Common.{◌≡◌, ◌≢◌, ℕ, zero, suc, ◌+◌, ◌-◌, ◌<◌, ◌≤◌, ◌⊎◌, inl, inr, Bool, true, false, cond, not, ◌&&◌, ◌||◌, nat_lt, List, [], ◌∷◌, ◌++◌, map, length, take, drop, get_or, Option, Some, None, refl, sym, ap, ◌∙◌, arith, subst, append_assoc, length-append}
-use Rattle.std.specs.List.{All, AllPairs, list_any, position, position_or_len}
-use Rattle.std.specs.Option.{option_and_then, is_some}
+use Rattle.std.proofs.Common.{◌≡◌, ◌≢◌, ℕ, ◌+◌, ◌<◌, ◌⊎◌, inl, inr, Bool, true, false, cond, nat_lt, List, [], ◌∷◌, ◌++◌, map, length, get_or, Option, Some, None, refl, sym, ap, ◌∙◌, arith, subst, append_assoc, length-append}
+use Rattle.std.specs.List.{All, AllPairs, list_any, position_or_len}
 use Rattle.std.proofs.lemmas.List.Quantifiers.{position-Some, all_pairs_push}
 use Rattle.std.proofs.lemmas.List.{append-nil, get_or_default}
 use Rattle.std.proofs.lemmas.Cmp.{nat_list_eq_equiv}
@@ -9,12 +8,11 @@ use Rattle.std.proofs.lemmas.List.Sums.{position_or_len_is}
 use Rattle.std.proofs.Math.ListN.{get_or-append}
 use Rattle.std.proofs.Math.Seq.{get_or-append_seam}
 use Rattle.std.proofs.lemmas.List.Folds.{list_any_at, Any-from_list_any}
-use Rattle.std.proofs.lemmas.List.Elements.{All-head, All-tail, All-cons, All-nil, All-get_or}
-use Rattle.std.proofs.lemmas.Bool.{true≢false, lt-ltb, le-ltb}
-use Rattle.std.specs.Cmp.Lexicographic.{pointwise}
+use Rattle.std.proofs.lemmas.List.Elements.{All-head, All-tail, All-cons, All-nil}
+use Rattle.std.proofs.lemmas.Bool.{true≢false, lt-ltb}
 use Rattle.first_form.specs.Names.{Text, same_text}
 use Rattle.first_form.specs.Form.{name_at}
-use Rattle.first_form.specs.Reading.{are_new, declared, place, places, placed}
+use Rattle.first_form.specs.Reading.{are_new, place, places, placed}
 use Rattle.first_form.proofs.Known.{new-step, new-stops}
 use Rattle.first_form.proofs.Cuts.{some-out, none-out, which}
 use Rattle.first_form.proofs.Lines.{same-out}
@@ -72,7 +70,7 @@ pub place-of : (names : List Text) (k : ℕ) → Differ names → k < length nam
 place-of names k h lt =
     let n : Text = name_at names k in
     let is : position_or_len (same_text n) names ≡ k =
-        position_or_len_is (same_text n) names k [] (omega arith) (λ j below. other n (get_or names j []) (λ e. h j k [] below lt (sym e))) (λ _. same-refl n) in
+    position_or_len_is (same_text n) names k [] (omega arith) (λ j below. other n (get_or names j []) (λ e. h j k [] below lt (sym e))) (λ _. same-refl n) in
     ap (λ i. cond (nat_lt i (length names)) (Some i) None) is ∙ ap (λ b. cond b (Some k) None) (lt-ltb k (length names) lt)
 
 pub places-sound : (names ns : List Text) (ps : List ℕ) → places names ns ≡ Some ps → All (λ p. p < length names) ps × (map (name_at names) ps ≡ ns)

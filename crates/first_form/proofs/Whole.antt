@@ -1,16 +1,16 @@
 -- What the reader answers is a form of the text, and each form of the text is what it answers.
-use Rattle.std.proofs.Common.{◌≡◌, ◌≢◌, ℕ, zero, suc, ◌+◌, ◌-◌, ◌<◌, ◌≤◌, ◌⊎◌, inl, inr, Bool, true, false, cond, not, nat_lt, List, [], ◌∷◌, ◌++◌, map, length, get_or, Option, Some, None, refl, sym, ap, ◌∙◌, arith, subst, append_assoc, length-append, codes}
-use Rattle.std.specs.List.{All, AllPairs}
+use Rattle.std.proofs.Common.{◌≡◌, ℕ, suc, ◌+◌, ◌<◌, ◌≤◌, ◌⊎◌, inl, inr, Bool, true, false, cond, nat_lt, List, [], ◌∷◌, ◌++◌, map, length, Option, Some, None, refl, sym, ap, ◌∙◌, arith, subst, append_assoc, codes}
+use Rattle.std.specs.List.{All}
 use Rattle.std.specs.Option.{option_and_then, is_some}
 use Rattle.std.proofs.lemmas.List.{append-nil, append_cancel_right}
-use Rattle.std.proofs.lemmas.List.Elements.{All-head, All-tail, All-cons, All-nil, All-get_or, All-from_get_or, All-append}
-use Rattle.std.proofs.lemmas.Bool.{true≢false, lt-ltb, le-ltb}
+use Rattle.std.proofs.lemmas.List.Elements.{All-head, All-tail, All-cons, All-nil, All-get_or, All-append}
+use Rattle.std.proofs.lemmas.Bool.{le-ltb}
 use Rattle.first_form.specs.declared.form.FirstForm.{FirstForm}
 use Rattle.first_form.specs.Names.{Text}
-use Rattle.first_form.specs.Form.{name_at, theorem_of, constants_line, before_obvious, body, written, IsLawful, IsTextOf, IsOfNoForm}
+use Rattle.first_form.specs.Form.{name_at, theorem_of, constants_line, before_obvious, body, written, IsTextOf, IsOfNoForm}
 use Rattle.first_form.specs.Reading as reading
 use Rattle.first_form.specs.Reading.{Statement, NamedParts, Places, are_new, declared, place, places}
-use Rattle.first_form.proofs.Cuts.{IsName, some-out, none-out, which, then-out}
+use Rattle.first_form.proofs.Cuts.{IsName, some-out, none-out, then-out}
 use Rattle.first_form.proofs.Lines.{Whole, parts-sound, parts-append}
 use Rattle.first_form.proofs.Order.{Differ, new-sound, new-append, places-sound, places-of, place-sound, place-of, differ-first, differ-last, differ-all}
 
@@ -58,7 +58,7 @@ resolved-sound cs s ps e =
       hypotheses = hs.0;
       spelled = hs.1;
       conclusion = c.0;
-      named = c.1
+      named = c.1;
     } in
     subst (Resolved cs s) h.2 all
 
@@ -118,11 +118,11 @@ sound-parts m z tail p ps short w r =
         hypotheses = r.hypotheses;
         conclusion = r.conclusion;
         few = omega (arith, r.few, ap length r.spelled, length-map (name_at cs) ps.hypotheses);
-        column = w.column ∙ ap (λ x. length x + 1) same
+        column = w.column ∙ ap (λ x. length x + 1) same;
       };
       short = short;
       text = tail-sound m z (reading.form_of p ps) tail
-        (w.text ∙ ap (λ x. codes "---- MODULE " ++ (m ++ (codes " ----\n" ++ (constants_line cs ++ (codes "\n" ++ (x ++ (codes "OBVIOUS" ++ (codes "\n====" ++ tail)))))))) same) w.last
+          (w.text ∙ ap (λ x. codes "---- MODULE " ++ (m ++ (codes " ----\n" ++ (constants_line cs ++ (codes "\n" ++ (x ++ (codes "OBVIOUS" ++ (codes "\n====" ++ tail)))))))) same) w.last;
     }
 
 pub form-sound : (m z : Text) (f : FirstForm) → reading.form m z ≡ Some f → IsTextOf m z f
@@ -156,11 +156,11 @@ form-of m z f h =
     let c : Text = name_at cs f.conclusion in
     let some : 0 < length cs = omega (arith, l.conclusion) in
     let read : reading.parts m (lines m f t.0) ≡ Some (record { constants = cs; statement = record { theorem = f.theorem; hypotheses = hs; conclusion = c; column = length (theorem_of f) + 1 } }) =
-        parts-append m t.0 cs f.theorem hs c t.2 names.0 some names.1 (spelled-names cs f.hypotheses names.0 l.hypotheses) (All-get_or IsName cs f.conclusion [] l.conclusion names.0) in
+    parts-append m t.0 cs f.theorem hs c t.2 names.0 some names.1 (spelled-names cs f.hypotheses names.0 l.hypotheses) (All-get_or IsName cs f.conclusion [] l.conclusion names.0) in
     let resolved = resolved-of cs f.theorem f.hypotheses f.conclusion (length (theorem_of f) + 1) l.differ l.hypotheses l.conclusion l.few in
     let small : nat_lt 1048576 (length z) ≡ false = le-ltb 1048576 (length z) h.short in
     let whole : (record { constants = cs; theorem = f.theorem; hypotheses = f.hypotheses; conclusion = f.conclusion; obvious_column = length (theorem_of f) + 1 }) ≡ f =
-        λ i. record { constants = cs; theorem = f.theorem; hypotheses = f.hypotheses; conclusion = f.conclusion; obvious_column = sym l.column i } in
+    λ i. record { constants = cs; theorem = f.theorem; hypotheses = f.hypotheses; conclusion = f.conclusion; obvious_column = sym l.column i } in
     ap (λ b. cond b None (option_and_then reading.lawful (reading.parts m z))) small
     ∙ ap (λ z. option_and_then reading.lawful (reading.parts m z)) t.1
     ∙ ap (option_and_then reading.lawful) read

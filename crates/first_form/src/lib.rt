@@ -13,3 +13,6 @@ mod stop;
 
 pub use form::FirstForm;
 pub use reader::{is_read_one_way, read};
+
+#[cfg(test)]
+mod tests;

@@ -1,13 +1,12 @@
 ghost use Rattle.std.specs.Prelude.{◌≡◌, map, IfSome};
 ghost use Rattle.first_form.specs.Reading as reading;
 
+use crate::scan::FoundStatement;
+use crate::stop::Stop;
 use core_expr::Text;
 use indexmap::IndexSet;
 use sqlite_items::Items;
 use std::alloc::Global;
-
-use crate::scan::FoundStatement;
-use crate::stop::Stop;
 
 /// The greatest number of hypotheses.
 const MAX_HYPOTHESES: usize = 200;
@@ -64,7 +63,11 @@ pub struct FoundPlaces {
 }
 
 /// The places of the names of a statement's formula.
-fn formula_places(alloc: Global, known: &IndexSet<&[u8]>, statement: &FoundStatement) -> Result<FoundPlaces, Stop>
+fn formula_places(
+    alloc: Global,
+    known: &IndexSet<&[u8]>,
+    statement: &FoundStatement,
+) -> Result<FoundPlaces, Stop>
     ensures { reading.Gives reading.of_places result (reading.formula_places (map (λ k. k.now) known.now.keys) (reading.of_statement statement.now)) }
 {
     let hypotheses = places(alloc, known, statement.hypotheses.as_slice())?;
@@ -78,7 +81,11 @@ fn formula_places(alloc: Global, known: &IndexSet<&[u8]>, statement: &FoundState
 }
 
 /// The same where the theorem's name is not among the known ones.
-fn apart_places(alloc: Global, known: &IndexSet<&[u8]>, statement: &FoundStatement) -> Result<FoundPlaces, Stop>
+fn apart_places(
+    alloc: Global,
+    known: &IndexSet<&[u8]>,
+    statement: &FoundStatement,
+) -> Result<FoundPlaces, Stop>
     ensures { reading.Gives reading.of_places result (reading.apart_places (reading.of_statement statement.now) (map (λ k. k.now) known.now.keys)) }
 {
     if place(known, statement.theorem.bytes()).is_some() {
@@ -88,7 +95,11 @@ fn apart_places(alloc: Global, known: &IndexSet<&[u8]>, statement: &FoundStateme
 }
 
 /// The places of the names of a lawful statement.
-pub fn resolve(alloc: Global, constants: &[Text], statement: &FoundStatement) -> Result<FoundPlaces, Stop>
+pub fn resolve(
+    alloc: Global,
+    constants: &[Text],
+    statement: &FoundStatement,
+) -> Result<FoundPlaces, Stop>
     ensures { reading.Gives reading.of_places result (reading.resolved constants.now (reading.of_statement statement.now)) }
 {
     if statement.hypotheses.len() > MAX_HYPOTHESES {

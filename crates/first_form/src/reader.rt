@@ -2,13 +2,12 @@ ghost use Rattle.std.specs.Prelude.{◌≡◌, IfOk, MatchOption};
 ghost use Rattle.first_form.specs.Form.{IsTextOf, IsOfNoForm, IsReadOneWay};
 ghost use Rattle.first_form.specs.Reading as reading;
 
-use core_expr::Memory;
-use std::alloc::Global;
-
 use crate::form::FirstForm;
 use crate::places::resolve;
 use crate::scan::parts;
 use crate::stop::Stop;
+use core_expr::Memory;
+use std::alloc::Global;
 
 /// The greatest number of bytes of a text.
 const MAX_BYTES: usize = 1048576;
@@ -45,5 +44,4 @@ pub fn read(alloc: Global, bytes: &[u8], module_name: &[u8]) -> Result<Option<Fi
 /// A text is of the form in at most one way.
 pub fn is_read_one_way()
     ensures { IsReadOneWay }
-{
-}
+{}

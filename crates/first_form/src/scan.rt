@@ -1,12 +1,11 @@
 ghost use Rattle.std.specs.Prelude.{◌≡◌, ◌+◌, ◌≤◌, ◌<◌, ◌^◌, length, drop, map, IfOk, IfSome};
 ghost use Rattle.first_form.specs.Reading as reading;
 
+use crate::stop::Stop;
 use core_expr::Text;
-use tla_ast::{is_identifier, is_word_byte};
 use sqlite_items::Items;
 use std::alloc::Global;
-
-use crate::stop::Stop;
+use tla_ast::{is_identifier, is_word_byte};
 
 /// The place after this text, where it stands at a place of the bytes.
 fn skip(bytes: &[u8], at: usize, text: &[u8]) -> Option<usize>
@@ -116,7 +115,10 @@ fn single(alloc: Global, bytes: &[u8], at: usize) -> Result<FoundNames, Stop>
     let one = name(alloc, bytes, at)?;
     let mut names = Items::new(alloc);
     names.push(one.text)?;
-    Ok(FoundNames { names, end: one.end })
+    Ok(FoundNames {
+        names,
+        end: one.end,
+    })
 }
 
 /// The names that the second line declares.

@@ -1,4 +1,4 @@
-use Rattle.std.proofs.Common.{◌≡◌, sym, ◌∙◌, true, false, Bool}
+use Rattle.std.proofs.Common.{sym, ◌∙◌}
 use Rattle.first_form.proofs.Known.{added, kept}
 use Rattle.first_form.proofs.places.add.Goals as goal
 

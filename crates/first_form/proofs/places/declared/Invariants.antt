@@ -1,4 +1,4 @@
-use Rattle.std.proofs.Common.{◌≡◌, ◌++◌, drop, take, map, []}
+use Rattle.std.proofs.Common.{◌≡◌, drop, take, map, []}
 use Rattle.first_form.specs.Reading.{are_new}
 use Rattle.first_form.proofs.places.declared.Given as goal
 

@@ -1,4 +1,4 @@
-use Rattle.std.proofs.Common.{◌≡◌, sym, ◌∙◌}
+use Rattle.std.proofs.Common.{◌∙◌}
 use Rattle.first_form.proofs.Known.{place-map}
 use Rattle.first_form.proofs.places.place.Goals as goal
 

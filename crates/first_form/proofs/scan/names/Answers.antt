@@ -1,9 +1,9 @@
-use Rattle.std.proofs.Common.{◌≡◌, ◌+◌, ◌-◌, ◌≤◌, ◌<◌, List, length, drop, suc, arith, ℕ, ap, ◌∙◌, sym, [], ◌∷◌, ◌++◌, length-append, length-drop}
+use Rattle.std.proofs.Common.{◌≡◌, ◌+◌, ◌-◌, ◌<◌, length, drop, suc, arith, [], ◌∷◌, ◌++◌, length-append}
 use Rattle.first_form.specs.Names.{Text}
 use Rattle.first_form.specs.declared.scan.FoundName.{FoundName}
 use Rattle.first_form.specs.declared.scan.FoundNames.{FoundNames}
 use Rattle.first_form.specs.Reading as reading
-use Rattle.first_form.proofs.Steps.{stops-at, names-first, names-next, names-fails, names-stops}
+use Rattle.first_form.proofs.Steps.{stops-at, names-next, names-fails, names-stops}
 use Rattle.first_form.proofs.scan.names.Goals as goal
 
 pub returns-in_err-one-clause-value : goal.returns-in_err-one-clause-value
@@ -19,7 +19,7 @@ loop-next-preserved c =
     let pushed : c.push-in-Some.new.self ≡ old ++ c.in_ok-one.one.text ∷ [] = c.in_ok-push-2.ensures.ok in
     let longer : length (old ++ c.in_ok-one.one.text ∷ []) ≡ length old + 1 = length-append {A = Text} old (c.in_ok-one.one.text ∷ []) in
     let fuel : length c.args.bytes.now - c.args.at + 1 - length old ≡ suc (length c.args.bytes.now - c.args.at + 1 - length (old ++ c.in_ok-one.one.text ∷ [])) =
-        omega (arith, longer, step.value.1, step.place, c.loop-next.invariant.count, c.requires.some) in
+    omega (arith, longer, step.value.1, step.place, c.loop-next.invariant.count, c.requires.some) in
     rw pushed record {
       value = names-next _ _ _ _ _ _ _ _ _ c.loop-next.invariant.value fuel step.value.0 c.in_ok-one.ensures.value.0;
       within = c.in_ok-one.ensures.value.1;
