@@ -1,6 +1,6 @@
 -- Adding a node to a set of nodes.
-use Rattle.std.proofs.Common.{◌≡◌, ℕ, zero, suc, ◌+◌, ◌<◌, ◌≤◌, Bool, true, false, cond, ◌||◌, List, [], ◌∷◌, ◌++◌, length, get_or, refl, ap, sym, ◌∙◌, arith, rules, subst, inl, inr, nat_eq}
-use Rattle.std.specs.Prelude.{Option, Some, None, slice_get}
+use Rattle.std.proofs.Common.{◌≡◌, ℕ, zero, suc, ◌<◌, ◌≤◌, Bool, true, false, cond, ◌||◌, List, [], ◌∷◌, ◌++◌, length, get_or, refl, ap, sym, ◌∙◌, arith, rules, subst, inl, inr}
+use Rattle.std.specs.Prelude.{Some, slice_get}
 use Rattle.std.specs.List.{list_any}
 use Rattle.std.proofs.lemmas.List.{get_or_append_left, get_or_push, length_push}
 use Rattle.std.proofs.lemmas.Bool.{cases_lt}
@@ -8,7 +8,7 @@ use Rattle.core_expr.specs.Tree.{Tree, true_}
 use Rattle.propositional_search.specs.declared.node.Node.{Node}
 use Rattle.propositional_search.specs.declared.node.Node.TheVariants.{True, False, Symbol, Not, And, Or, Implies, Iff}
 use Rattle.propositional_search.specs.contracts.node.NodePartialEq.TheImpl.{eq-value}
-use Rattle.propositional_search.specs.Nodes.{tree_of, tree_in, trees_from, trees_of, tree_at, Below, IsDistinct, IsBank, IsArena, Keeps, Extends, Adds, Grows}
+use Rattle.propositional_search.specs.Nodes.{tree_of, tree_in, trees_of, tree_at, Below, IsArena, Keeps, Extends, Adds, Grows}
 use Rattle.propositional_search.proofs.NodeLaws.{IsBank-push, trees_of-push, length-trees_of}
 
 pub node_eq-true : (m n : Node) → eq-value.it m n ≡ true → m ≡ n

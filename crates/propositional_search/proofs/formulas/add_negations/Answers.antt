@@ -1,4 +1,4 @@
-use Rattle.std.proofs.Common.{rules, ◌≡◌, ◌<◌, ◌++◌, ◌∷◌, [], length, ℕ, sym, ap, ◌∙◌, subst, arith}
+use Rattle.std.proofs.Common.{length, sym, subst}
 use Rattle.propositional_search.specs.Ready.{IsPrepared}
 use Rattle.propositional_search.proofs.Interned.{Extends-from, Adds-from}
 use Rattle.propositional_search.proofs.Prepared.{prepared_none, prepared_more}

@@ -1,5 +1,4 @@
-use Rattle.std.proofs.Common.{rules, ◌≡◌, ◌<◌, ◌≤◌, [], length, ℕ, ◌∙◌, sym, subst, ap, arith}
-use Rattle.propositional_search.specs.Nodes.{Below, Keeps, Extends, Adds, tree_at, tree_in, trees_of, IsArena}
+use Rattle.std.proofs.Common.{rules, ◌≡◌, length, ap, arith}
 use Rattle.propositional_search.proofs.Interned.{Interned, interned, Extends-same, Keeps-from, within_of, tree_of_added}
 use Rattle.propositional_search.proofs.formulas.Formulas.intern.Goals as goal
 
