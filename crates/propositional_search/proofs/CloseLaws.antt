@@ -1,9 +1,7 @@
 -- A branch closes where its places say so.
-use Rattle.std.proofs.Common.{◌≡◌, ℕ, zero, suc, ◌+◌, ◌<◌, ◌≤◌, Bool, true, false, ◌⊎◌, List, [], ◌∷◌, ◌++◌, length, get_or, refl, ap, sym, ◌∙◌, arith, rules, subst, inl, inr}
+use Rattle.std.proofs.Common.{◌≡◌, ℕ, ◌<◌, Bool, true, false, ◌⊎◌, List, [], ◌∷◌, ◌++◌, length, refl, ap, sym, ◌∙◌, arith, subst, inl, inr}
 use Rattle.std.specs.Prelude.{Option, Some, None}
-use Rattle.core_expr.specs.Tree.{Tree, Parts, true_, false_, not_, and_, or_, imp_, iff_}
-use Rattle.core_expr.specs.Tree.Tree.{bound, app, node, bind}
-use Rattle.core_expr.specs.Tree.Parts.{end, part}
+use Rattle.core_expr.specs.Tree.{Tree, not_}
 use Rattle.core_expr.specs.Terms.{same, nodes}
 use Rattle.core_expr.proofs.Equal.{same-true}
 use Rattle.tableau_definition.specs.Terms.{first_some}
@@ -13,8 +11,8 @@ use Rattle.tableau_definition.proofs.Used.{same-self}
 use Rattle.propositional_search.specs.declared.node.Node.{Node}
 use Rattle.propositional_search.specs.declared.node.Node.TheVariants.{True, False, Symbol, Not, And, Or, Implies, Iff}
 use Rattle.propositional_search.specs.declared.branch.Entry.{Entry}
-use Rattle.propositional_search.specs.Nodes.{tree_of, tree_in, trees_of, Below, IsDistinct, symbol_}
-use Rattle.propositional_search.specs.Steps.{has_place, node_at, flag_at, stands_in, is_true_node, shuts, closes}
+use Rattle.propositional_search.specs.Nodes.{tree_of, tree_in, trees_of, Below}
+use Rattle.propositional_search.specs.Steps.{node_at, flag_at, stands_in, is_true_node, shuts, closes}
 use Rattle.propositional_search.specs.Ready.{IsReady}
 use Rattle.propositional_search.proofs.Marks.{stands-marked}
 use Rattle.propositional_search.proofs.Shows.{Shows, has-shown}

@@ -1,6 +1,6 @@
 -- Adding a node to a set of nodes.
-use Rattle.std.proofs.Common.{◌≡◌, ℕ, zero, suc, ◌+◌, ◌<◌, ◌≤◌, Bool, true, false, cond, ◌||◌, List, [], ◌∷◌, ◌++◌, length, get_or, refl, ap, sym, ◌∙◌, arith, rules, subst, inl, inr, nat_eq}
-use Rattle.std.specs.Prelude.{Option, Some, None, slice_get}
+use Rattle.std.proofs.Common.{◌≡◌, ℕ, zero, suc, ◌<◌, ◌≤◌, Bool, true, false, cond, ◌||◌, List, [], ◌∷◌, ◌++◌, length, get_or, refl, ap, sym, ◌∙◌, arith, rules, subst, inl, inr}
+use Rattle.std.specs.Prelude.{Some, slice_get}
 use Rattle.std.specs.List.{list_any}
 use Rattle.std.proofs.lemmas.List.{get_or_append_left, get_or_push, length_push}
 use Rattle.std.proofs.lemmas.Bool.{cases_lt}
@@ -8,7 +8,7 @@ use Rattle.core_expr.specs.Tree.{Tree, true_}
 use Rattle.propositional_search.specs.declared.node.Node.{Node}
 use Rattle.propositional_search.specs.declared.node.Node.TheVariants.{True, False, Symbol, Not, And, Or, Implies, Iff}
 use Rattle.propositional_search.specs.contracts.node.NodePartialEq.TheImpl.{eq-value}
-use Rattle.propositional_search.specs.Nodes.{tree_of, tree_in, trees_from, trees_of, tree_at, Below, IsDistinct, IsBank, IsArena, Extends, Adds, Grows}
+use Rattle.propositional_search.specs.Nodes.{tree_of, tree_in, trees_of, tree_at, Below, IsArena, Keeps, Extends, Adds, Grows}
 use Rattle.propositional_search.proofs.NodeLaws.{IsBank-push, trees_of-push, length-trees_of}
 
 pub node_eq-true : (m n : Node) → eq-value.it m n ≡ true → m ≡ n
@@ -53,6 +53,7 @@ none_among n (x ∷ xs) h (suc i) l e = none_among n xs (go (eq-value.it n x) h)
 -- what adding a node to a set does
 pub record Interned (ns new : List Node) (n : Node) (i : ℕ) : Type 0 where
   pub arena : IsArena new
+  pub longer : length ns ≤ length new
   pub extends : Extends ns new
   pub made : Adds ns new i (tree_in (trees_of ns) n)
   pub grows : Grows ns new n
@@ -65,7 +66,7 @@ found : (ns : List Node) (n k : Node) (i : ℕ) → IsArena ns → slice_get ns 
 unfolding IsArena Adds Grows
 found ns n k i a e h =
     let p = at_place ns i k e in
-    record { arena = a; extends = Extends-same ns ns refl; made = (p.0, a.tree i p.0 ∙ ap (λ m. tree_in (trees_of ns) m) (p.1 ∙ sym (node_eq-true n k h))); grows = inl refl }
+    record { arena = a; longer = omega arith; extends = Extends-same ns ns refl; made = (p.0, a.tree i p.0 ∙ ap (λ m. tree_in (trees_of ns) m) (p.1 ∙ sym (node_eq-true n k h))); grows = inl refl }
 
 pub Extends-push : (ns : List Node) (n : Node) → Extends ns (ns ++ n ∷ [])
 unfolding Extends
@@ -85,6 +86,7 @@ added ns n k i a b f e h =
     let p = at_place (ns ++ n ∷ []) i k e in
     record {
       arena = Arena-push ns n a b f;
+      longer = omega (arith, length_push ns n);
       extends = Extends-push ns n;
       made = (p.0, place p.0 (p.1 ∙ sym (node_eq-true n k h)));
       grows = inr refl;
@@ -103,3 +105,23 @@ interned ns new n k i a b e s h = go (list_any (eq-value.it n) ns) refl e
     go : (x : Bool) → list_any (eq-value.it n) ns ≡ x → new ≡ cond x ns (ns ++ n ∷ []) → Interned ns new n i
     go true q r = subst (λ m. Interned ns m n i) (sym r) (found ns n k i a (subst (λ m. slice_get m i ≡ Some k) r s) h)
     go false q r = subst (λ m. Interned ns m n i) (sym r) (added ns n k i a b q (subst (λ m. slice_get m i ≡ Some k) r s) h)
+
+pub Keeps-from : (old new : List Node) → Extends old new → Keeps old new
+unfolding Extends
+Keeps-from old new x i h = (x i h).1
+
+pub Extends-from : (old new : List Node) → length old ≤ length new → Keeps old new → Extends old new
+unfolding Extends
+Extends-from old new l k i h = (omega arith, k i h)
+
+pub Adds-from : (old new : List Node) (i : ℕ) (t : Tree) → i < length new → tree_at new i ≡ t → Adds old new i t
+unfolding Adds
+Adds-from old new i t l e = (l, e)
+
+pub within_of : (old new : List Node) (i : ℕ) (t : Tree) → Adds old new i t → i < length new
+unfolding Adds
+within_of old new i t a = a.0
+
+pub tree_of_added : (old new : List Node) (i : ℕ) (t : Tree) → Adds old new i t → tree_at new i ≡ t
+unfolding Adds
+tree_of_added old new i t a = a.1

@@ -1,13 +1,12 @@
 -- What is marked.
-use Rattle.std.proofs.Common.{◌≡◌, ℕ, zero, suc, ◌+◌, ◌<◌, ◌≤◌, Bool, true, false, ◌||◌, List, [], ◌∷◌, ◌++◌, length, get_or, refl, ap, sym, ◌∙◌, arith, rules, subst, nat_eq}
+use Rattle.std.proofs.Common.{◌≡◌, ℕ, zero, suc, ◌<◌, Bool, true, false, ◌||◌, List, [], ◌∷◌, length, get_or, refl, ap, ◌∙◌, arith, subst, nat_eq}
 use Rattle.std.proofs.Common.{get_or-set_same, get_or-set_other, ◌≢◌}
 use Rattle.core_expr.proofs.Equal.{nat-same}
 use Rattle.tableau_definition.proofs.Used.{nat_self}
 use Rattle.std.specs.Prelude.{replicate, slice_set}
 use Rattle.std.specs.List.{list_any, fold}
-use Rattle.std.proofs.lemmas.Bool.Decides.{nat_tests}
 use Rattle.propositional_search.specs.declared.node.Node.{Node}
-use Rattle.propositional_search.specs.declared.node.Node.TheVariants.{True, False, Symbol, Not, And, Or, Implies, Iff}
+use Rattle.propositional_search.specs.declared.node.Node.TheVariants.{Symbol, Not}
 use Rattle.propositional_search.specs.declared.branch.Entry.{Entry}
 use Rattle.propositional_search.specs.Steps.{has_place, node_at, flag_at, mark_entry, mark_part, mark_symbol, stands_in, denied_in, values_of}
 

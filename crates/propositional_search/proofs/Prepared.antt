@@ -1,11 +1,11 @@
 -- The negations of the formulas.
-use Rattle.std.proofs.Common.{◌≡◌, ℕ, zero, suc, ◌+◌, ◌<◌, ◌≤◌, ◌⊎◌, Bool, true, false, List, [], ◌∷◌, ◌++◌, length, get_or, refl, ap, sym, ◌∙◌, arith, rules, subst, inl, inr}
+use Rattle.std.proofs.Common.{◌≡◌, ℕ, zero, suc, ◌+◌, ◌<◌, ◌≤◌, ◌⊎◌, List, [], ◌∷◌, ◌++◌, length, refl, ap, sym, ◌∙◌, arith, subst, inl, inr}
 use Rattle.std.proofs.lemmas.Bool.{cases_lt}
 use Rattle.std.proofs.lemmas.List.{get_or_append_left, get_or_push, length_push}
 use Rattle.core_expr.specs.Tree.{not_}
 use Rattle.propositional_search.specs.declared.node.Node.{Node}
 use Rattle.propositional_search.specs.declared.node.Node.TheVariants.{True, False, Symbol, Not, And, Or, Implies, Iff}
-use Rattle.propositional_search.specs.Nodes.{tree_at, tree_in, trees_of, Below, IsBank, IsArena, Extends, Adds, Grows}
+use Rattle.propositional_search.specs.Nodes.{tree_at, tree_in, trees_of, Below, IsArena, Extends, Adds, Grows}
 use Rattle.propositional_search.specs.Steps.{node_at, place_at}
 use Rattle.propositional_search.specs.Ready.{Small, IsNegation, IsReady, IsPrepared}
 use Rattle.propositional_search.proofs.Interned.{Extends-same}

@@ -1,9 +1,7 @@
 -- The rules over places are those of the trees.
-use Rattle.std.proofs.Common.{◌≡◌, ℕ, zero, suc, ◌+◌, ◌<◌, ◌≤◌, Bool, true, false, List, [], ◌∷◌, ◌++◌, length, get_or, refl, ap, sym, ◌∙◌, arith, rules, subst}
+use Rattle.std.proofs.Common.{◌≡◌, ℕ, suc, ◌<◌, Bool, true, false, List, [], ◌∷◌, length, refl, sym, arith, subst}
 use Rattle.std.specs.Prelude.{Option, Some, None}
-use Rattle.core_expr.specs.Tree.{Tree, Parts, true_, false_, not_, and_, or_, imp_, iff_}
-use Rattle.core_expr.specs.Tree.Tree.{bound, app, node, bind}
-use Rattle.core_expr.specs.Tree.Parts.{end, part}
+use Rattle.core_expr.specs.Tree.{Tree, not_}
 use Rattle.tableau_definition.specs.Branches.{Branch}
 use Rattle.tableau_definition.specs.Ranks.{Side, Step, Result, oldest, split}
 use Rattle.tableau_definition.specs.Propositional.{connective_plain}
@@ -11,11 +9,10 @@ use Rattle.propositional_search.specs.declared.node.Node.{Node}
 use Rattle.propositional_search.specs.declared.node.Node.TheVariants.{True, False, Symbol, Not, And, Or, Implies, Iff}
 use Rattle.propositional_search.specs.declared.branch.Entry.{Entry}
 use Rattle.propositional_search.specs.declared.branch.Added.{Added}
-use Rattle.propositional_search.specs.declared.branch.Added.TheVariants.{Nothing, One, Two}
 use Rattle.propositional_search.specs.declared.rules.Sides.{Sides}
-use Rattle.propositional_search.specs.Nodes.{tree_of, tree_in, trees_of, tree_at, Below, IsBank, IsArena, IsDistinct}
+use Rattle.propositional_search.specs.Nodes.{tree_of, tree_in, trees_of, Below, IsBank, IsArena}
 use Rattle.propositional_search.specs.Steps.{node_at, place_at, plain_negation, plain_node, plain_at, split_negation, split_node, split_at, first_found, live_plain, live_split}
-use Rattle.propositional_search.specs.Ready.{Small, IsNegation, IsReady}
+use Rattle.propositional_search.specs.Ready.{Small, IsReady}
 use Rattle.propositional_search.proofs.NodeLaws.{Below-more, length-trees_of}
 use Rattle.propositional_search.proofs.Shows.{Shows, trees_added, Within}
 

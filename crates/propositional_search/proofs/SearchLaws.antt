@@ -1,15 +1,12 @@
 -- The run over places is the written search.
-use Rattle.std.proofs.Common.{◌≡◌, ℕ, zero, suc, ◌+◌, ◌<◌, ◌≤◌, Bool, true, false, ◌||◌, List, [], ◌∷◌, ◌++◌, length, get_or, refl, ap, sym, ◌∙◌, arith, rules, subst, nat_eq, map, inl, inr}
+use Rattle.std.proofs.Common.{◌≡◌, ℕ, zero, suc, ◌+◌, ◌<◌, Bool, true, false, ◌||◌, List, [], ◌∷◌, ◌++◌, length, get_or, refl, ap, sym, ◌∙◌, arith, rules, subst, nat_eq, map}
 use Rattle.std.specs.Prelude.{Option, Some, None}
 use Rattle.std.specs.List.{fold, All, list_any}
-use Rattle.std.proofs.lemmas.Bool.{cases_lt}
-use Rattle.core_expr.specs.declared.head.SymKind.TheVariants.{Canon}
-use Rattle.core_expr.specs.Tree.{Tree, Parts, true_, false_, not_, and_, or_, imp_, iff_}
-use Rattle.core_expr.specs.Tree.Tree.{bound, app, node, bind}
-use Rattle.core_expr.specs.Terms.{same, same_sym}
-use Rattle.tableau_definition.specs.Branches.{Branch, has, formulas, Closing, closing, add, add_all, used}
-use Rattle.tableau_definition.specs.Ranks.{Side, Step, Result}
-use Rattle.tableau_definition.specs.Search.{first_rule, Open, Turning, apply_sides, apply, with_path, union, needs_of, split_number, Next, turn, End, run, start, spare, search}
+use Rattle.core_expr.specs.Tree.{Tree, not_}
+use Rattle.core_expr.specs.Terms.{same}
+use Rattle.tableau_definition.specs.Branches.{Branch, has, formulas, Closing, add, add_all}
+use Rattle.tableau_definition.specs.Ranks.{Side, Result}
+use Rattle.tableau_definition.specs.Search.{first_rule, Open, apply_sides, apply, with_path, union, needs_of, split_number, Next, turn, End, run, start, spare, search}
 use Rattle.tableau_definition.specs.Search.Next.{Stuck as Halts, Goes}
 use Rattle.tableau_definition.specs.Search.End.{Closed as AllClosed, Saturated as Stays, Spent as Cut}
 use Rattle.tableau_definition.specs.Propositional.{Formula, Formulas, OnlyConnectiveRules, OnlyConnectiveClosings}
@@ -17,21 +14,19 @@ use Rattle.tableau_definition.specs.Propositional.Formula.{f_true, f_false, f_sy
 use Rattle.propositional_search.specs.declared.node.Node.{Node}
 use Rattle.propositional_search.specs.declared.node.Node.TheVariants.{True, False, Symbol, Not, And, Or, Implies, Iff}
 use Rattle.propositional_search.specs.declared.branch.Entry.{Entry}
-use Rattle.propositional_search.specs.declared.branch.Added.{Added}
-use Rattle.propositional_search.specs.declared.rules.Sides.{Sides}
 use Rattle.propositional_search.specs.declared.choose.Decision.{Decision}
 use Rattle.propositional_search.specs.declared.choose.Decision.TheVariants.{Closes, Stuck, Alone, Splits}
 use Rattle.propositional_search.specs.declared.search.Ending.{Ending}
 use Rattle.propositional_search.specs.declared.search.Ending.TheVariants.{Closed, Saturated, Spent}
 use Rattle.propositional_search.specs.Nodes.{tree_of, tree_in, trees_of, tree_at, Below, symbol_, Extends}
-use Rattle.propositional_search.specs.Steps.{node_at, place_at, flag_at, with_place, result_of, decided, next_branches, is_stuck, run_at, start_at, values_of}
+use Rattle.propositional_search.specs.Steps.{node_at, place_at, with_place, result_of, decided, next_branches, is_stuck, run_at, start_at, values_of}
 use Rattle.propositional_search.specs.Ready.{IsReady}
 use Rattle.propositional_search.specs.Answers.{valuation_from, valuation, Answers, answer_of}
 use Rattle.propositional_search.proofs.NodeLaws.{length-trees_of}
 use Rattle.propositional_search.proofs.Shows.{Shows, add-shown, result-shown}
 use Rattle.propositional_search.proofs.Marks.{is_symbol, length-values_of, values-marked}
-use Rattle.propositional_search.proofs.RuleLaws.{bank_of, count, tree_node, below, side_of}
-use Rattle.propositional_search.proofs.TurnLaws.{Uses, DoesSo, decided-so}
+use Rattle.propositional_search.proofs.RuleLaws.{bank_of, count, tree_node, side_of}
+use Rattle.propositional_search.proofs.TurnLaws.{DoesSo, decided-so}
 use Rattle.propositional_search.proofs.TurnLaws.DoesSo.{does_close, does_stick, does_add, does_split}
 
 -- lists of entries that show the open branches

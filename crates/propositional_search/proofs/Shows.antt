@@ -1,15 +1,11 @@
 -- Entries over places, and the branch that they show.
-use Rattle.std.proofs.Common.{◌≡◌, ℕ, zero, suc, ◌+◌, ◌<◌, ◌≤◌, Bool, true, false, ◌||◌, List, [], ◌∷◌, ◌++◌, length, get_or, refl, ap, sym, ◌∙◌, arith, rules, subst, nat_eq}
-use Rattle.std.specs.Prelude.{Option, Some, None}
-use Rattle.std.specs.List.{list_any}
+use Rattle.std.proofs.Common.{◌≡◌, ℕ, zero, suc, ◌<◌, Bool, true, false, ◌||◌, List, [], ◌∷◌, ◌++◌, length, refl, arith, subst, nat_eq}
 use Rattle.std.proofs.lemmas.Bool.Decides.{nat_tests}
-use Rattle.core_expr.specs.Tree.{Tree, Parts, true_, false_, not_}
-use Rattle.core_expr.specs.Tree.Tree.{bound, app, node, bind}
-use Rattle.core_expr.specs.Tree.Parts.{end, part}
-use Rattle.core_expr.specs.Terms.{same, sames}
+use Rattle.core_expr.specs.Tree.{Tree}
+use Rattle.core_expr.specs.Terms.{same}
 use Rattle.core_expr.proofs.Equal.{same-true}
 use Rattle.tableau_definition.proofs.Used.{same-self}
-use Rattle.tableau_definition.specs.Branches.{Branch, has, add, add_all, used, formulas}
+use Rattle.tableau_definition.specs.Branches.{Branch, has, add, add_all, used}
 use Rattle.propositional_search.specs.declared.branch.Entry.{Entry}
 use Rattle.propositional_search.specs.declared.branch.Added.{Added}
 use Rattle.propositional_search.specs.declared.branch.Added.TheVariants.{Nothing, One, Two}

@@ -1,6 +1,6 @@
 -- Small laws of the steps.
-use Rattle.std.proofs.Common.{◌≡◌, ℕ, zero, suc, ◌+◌, ◌<◌, ◌≤◌, Bool, true, false, List, [], ◌∷◌, ◌++◌, length, refl, ap, sym, ◌∙◌, arith, rules, subst}
-use Rattle.std.specs.Prelude.{Option, Some, None, slice_get, slice_set}
+use Rattle.std.proofs.Common.{◌≡◌, ℕ, zero, suc, false, List, [], ◌∷◌, refl, ap}
+use Rattle.std.specs.Prelude.{Some, None, slice_get, slice_set}
 use Rattle.propositional_search.specs.declared.branch.Entry.{Entry}
 use Rattle.propositional_search.specs.Steps.{retired}
 

@@ -1,14 +1,14 @@
 -- A turn over places is the turn of the written search.
-use Rattle.std.proofs.Common.{◌≡◌, ℕ, zero, suc, ◌+◌, ◌<◌, ◌≤◌, Bool, true, false, List, [], ◌∷◌, ◌++◌, length, get_or, refl, ap, sym, ◌∙◌, arith, rules, subst}
+use Rattle.std.proofs.Common.{◌≡◌, ℕ, suc, ◌<◌, Bool, true, false, List, [], ◌∷◌, length, refl, ap, sym, ◌∙◌, subst}
 use Rattle.std.specs.Prelude.{Option, Some, None}
-use Rattle.core_expr.specs.Tree.{Tree, Parts, true_, false_, not_, and_, or_, imp_, iff_}
-use Rattle.tableau_definition.specs.Branches.{Branch, has, formulas, Closing, closing, add_all, used}
+use Rattle.core_expr.specs.Tree.{Tree}
+use Rattle.tableau_definition.specs.Branches.{Branch, formulas, Closing, closing}
 use Rattle.tableau_definition.specs.Values.{Valued}
 use Rattle.tableau_definition.specs.Values as tree
 use Rattle.tableau_definition.specs.Values.Truth.{Yes as TrulyYes, No as TrulyNo, Unknown as TrulyUnknown}
 use Rattle.tableau_definition.specs.Ranks.{Side, Step, Result, oldest, split, gives}
 use Rattle.tableau_definition.specs.Search.{first_rule}
-use Rattle.tableau_definition.specs.Propositional.{Formula, Formulas, connective_plain, connective_value, all_true, first_false, settle_between, connective_settle, connective_rule, connective_closing, OnlyConnectiveRules, OnlyConnectiveClosings}
+use Rattle.tableau_definition.specs.Propositional.{Formulas, connective_plain, connective_value, all_true, first_false, settle_between, connective_settle, connective_closing, OnlyConnectiveRules, OnlyConnectiveClosings}
 use Rattle.propositional_search.specs.declared.node.Node.{Node}
 use Rattle.propositional_search.specs.declared.branch.Entry.{Entry}
 use Rattle.propositional_search.specs.declared.branch.Added.{Added}
@@ -19,7 +19,7 @@ use Rattle.propositional_search.specs.declared.choose.Decision.TheVariants.{Clos
 use Rattle.propositional_search.specs.declared.values.Truth.{Truth}
 use Rattle.propositional_search.specs.declared.values.Truth.TheVariants.{Yes, No, Unknown}
 use Rattle.propositional_search.specs.Nodes.{tree_of, trees_of}
-use Rattle.propositional_search.specs.Steps.{node_at, truth_at, yes_of, no_of, is_yes, is_no, all_yes, some_no, settled_by, live_plain, live_split, live_settled, first_found, closes, stands_in, denied_in, values_in, settle_or_split, decided}
+use Rattle.propositional_search.specs.Steps.{truth_at, yes_of, no_of, is_yes, is_no, all_yes, some_no, settled_by, live_plain, live_split, live_settled, first_found, closes, stands_in, denied_in, values_in, settle_or_split, decided}
 use Rattle.propositional_search.specs.Ready.{IsReady}
 use Rattle.propositional_search.proofs.Shows.{Shows, trees_added, Within}
 use Rattle.propositional_search.proofs.RuleLaws.{side_of, AddsStep, SplitsStep, Agrees, FoundAs, oldest_found, live_plain-agrees, live_split-agrees}

@@ -1,13 +1,10 @@
 -- The values over places are those of the trees.
-use Rattle.std.proofs.Common.{◌≡◌, ℕ, zero, suc, ◌+◌, ◌<◌, ◌≤◌, Bool, true, false, ◌||◌, List, [], ◌∷◌, ◌++◌, length, get_or, refl, ap, sym, ◌∙◌, arith, rules, subst, nat_eq, inl, inr}
-use Rattle.std.specs.Prelude.{Option, Some, None, replicate}
-use Rattle.std.specs.List.{list_any, fold}
+use Rattle.std.proofs.Common.{◌≡◌, ℕ, ◌<◌, Bool, true, false, ◌||◌, List, [], ◌∷◌, ◌++◌, length, refl, ap, sym, ◌∙◌, arith, subst, inl, inr}
+use Rattle.std.specs.List.{fold}
 use Rattle.std.proofs.lemmas.Bool.{cases_lt}
 use Rattle.std.proofs.lemmas.List.{get_or_append_left, get_or_push, length_push}
 use Rattle.std.proofs.Common.{append_assoc, length-append}
-use Rattle.core_expr.specs.Tree.{Tree, Parts, true_, false_, not_, and_, or_, imp_, iff_}
-use Rattle.core_expr.specs.Tree.Tree.{bound, app, node, bind}
-use Rattle.core_expr.specs.Tree.Parts.{end, part}
+use Rattle.core_expr.specs.Tree.{Tree, true_, false_, not_, and_, or_, imp_, iff_}
 use Rattle.core_expr.specs.Terms.{same}
 use Rattle.tableau_definition.specs.Branches.{Branch, has}
 use Rattle.tableau_definition.specs.Values.{Valued}
@@ -20,7 +17,7 @@ use Rattle.propositional_search.specs.declared.branch.Entry.{Entry}
 use Rattle.propositional_search.specs.declared.values.Truth.{Truth}
 use Rattle.propositional_search.specs.declared.values.Truth.TheVariants.{Yes, No, Unknown}
 use Rattle.propositional_search.specs.Nodes.{tree_of, tree_in, trees_of, Below, IsDistinct, symbol_}
-use Rattle.propositional_search.specs.Steps.{has_place, node_at, flag_at, truth_at, opposite, both_true, one_true, same_truth, by_parts, unless_marked, value_at, with_value, values_in, stands_in, denied_in}
+use Rattle.propositional_search.specs.Steps.{node_at, flag_at, truth_at, opposite, both_true, one_true, same_truth, unless_marked, value_at, with_value, values_in, stands_in, denied_in}
 use Rattle.propositional_search.specs.Ready.{IsReady}
 use Rattle.propositional_search.proofs.Marks.{is_negation_of, denied_place, stands-marked, denied-marked}
 use Rattle.propositional_search.proofs.Shows.{Shows, has-shown, same_place}

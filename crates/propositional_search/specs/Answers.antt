@@ -1,5 +1,5 @@
 -- What an answer says of the end of the written search.
-use Rattle.std.specs.Prelude.{◌≡◌, ℕ, zero, suc, ◌+◌, Bool, List, [], ◌∷◌}
+use Rattle.std.specs.Prelude.{◌≡◌, ℕ, zero, suc, Bool, List, [], ◌∷◌}
 use Rattle.tableau_definition.specs.Branches.{Branch, has}
 use Rattle.tableau_definition.specs.Search.{End}
 use Rattle.tableau_definition.specs.Search.End.{Closed, Saturated as Open, Spent as Cut}

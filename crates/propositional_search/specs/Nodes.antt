@@ -65,7 +65,11 @@ pub record IsBank (ns : List Node) (ts : List Tree) : Type 0 where
 unfoldable pub IsArena : List Node → Type 0
 IsArena ns = IsBank ns (trees_of ns)
 
--- each place keeps its formula
+-- the places of the old list keep their formulas
+abbrev pub Keeps : List Node → List Node → Type 0
+Keeps old new = (i : ℕ) → i < length old → tree_at new i ≡ tree_at old i
+
+-- the same, where they are places of the new list
 unfoldable pub Extends : List Node → List Node → Type 0
 Extends old new = (i : ℕ) → i < length old → (i < length new) × (tree_at new i ≡ tree_at old i)
 

@@ -1,9 +1,8 @@
 -- What the search asks of its nodes and of the places of their negations.
 use Rattle.std.specs.Prelude.{◌≡◌, ℕ, ◌<◌, ◌≤◌, List, length}
-use Rattle.std.proofs.Common.{get_or}
 use Rattle.core_expr.specs.Tree.{not_}
 use Rattle.propositional_search.specs.declared.node.Node.{Node}
-use Rattle.propositional_search.specs.declared.node.Node.TheVariants.{True, False, Symbol, Not, And, Or, Implies, Iff}
+use Rattle.propositional_search.specs.declared.node.Node.TheVariants.{And, Or, Implies, Iff}
 use Rattle.propositional_search.specs.Nodes.{tree_at, IsArena, Extends}
 use Rattle.propositional_search.specs.Steps.{node_at, place_at}
 

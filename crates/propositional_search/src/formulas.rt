@@ -1,6 +1,6 @@
-ghost use Rattle.std.specs.Prelude.{◌≡◌, ◌<◌, [], length, IfOk, OnErr};
+ghost use Rattle.std.specs.Prelude.{◌≡◌, ◌<◌, ◌≤◌, [], length, IfOk, OnErr};
 ghost use Rattle.core_expr.specs.Tree.{true_, false_, not_, and_, or_, imp_, iff_};
-ghost use Rattle.propositional_search.specs.Nodes.{Below, Extends, Adds, Grows, IsArena, tree_at, tree_in, trees_of, symbol_};
+ghost use Rattle.propositional_search.specs.Nodes.{Below, Keeps, Extends, Grows, IsArena, tree_at, tree_in, trees_of, symbol_};
 ghost use Rattle.propositional_search.specs.Ready.{IsReady, IsPrepared};
 
 use crate::node::Node;
@@ -49,8 +49,10 @@ impl Formulas {
     /// The place of the node, which is new or was there.
     fn intern(&mut self, node: Node) -> Result<usize, AllocError>
         requires { Below (length self.old) node }
-        ensures extends { Extends self.old self.new }
-        ensures made { IfOk result (λ i. Adds self.old self.new i (tree_in (trees_of self.old) node)) }
+        ensures longer { length self.old ≤ length self.new }
+        ensures keeps { Keeps self.old self.new }
+        ensures within { IfOk result (λ i. i < length self.new) }
+        ensures tree { IfOk result (λ i. tree_at self.new i ≡ tree_in (trees_of self.old) node) }
         ensures grows { IfOk result (λ _. Grows self.old self.new node) }
     {
         let (place, _) = self.nodes.insert_full(node)?;
@@ -59,24 +61,30 @@ impl Formulas {
 
     /// The place of TRUE. Earlier places keep their formulas, here and in the calls below, also after want of memory.
     pub fn truth(&mut self) -> Result<usize, Memory>
-        ensures extends { Extends self.old self.new }
-        ensures made { IfOk result (λ i. Adds self.old self.new i true_) }
+        ensures longer { length self.old ≤ length self.new }
+        ensures keeps { Keeps self.old self.new }
+        ensures within { IfOk result (λ i. i < length self.new) }
+        ensures tree { IfOk result (λ i. tree_at self.new i ≡ true_) }
     {
         Ok(self.intern(Node::True)?)
     }
 
     /// The place of FALSE.
     pub fn falsity(&mut self) -> Result<usize, Memory>
-        ensures extends { Extends self.old self.new }
-        ensures made { IfOk result (λ i. Adds self.old self.new i false_) }
+        ensures longer { length self.old ≤ length self.new }
+        ensures keeps { Keeps self.old self.new }
+        ensures within { IfOk result (λ i. i < length self.new) }
+        ensures tree { IfOk result (λ i. tree_at self.new i ≡ false_) }
     {
         Ok(self.intern(Node::False)?)
     }
 
     /// The place of the symbol of a canonical form with this number, without arguments.
     pub fn symbol(&mut self, number: u64) -> Result<usize, Memory>
-        ensures extends { Extends self.old self.new }
-        ensures made { IfOk result (λ i. Adds self.old self.new i (symbol_ number)) }
+        ensures longer { length self.old ≤ length self.new }
+        ensures keeps { Keeps self.old self.new }
+        ensures within { IfOk result (λ i. i < length self.new) }
+        ensures tree { IfOk result (λ i. tree_at self.new i ≡ (symbol_ number)) }
     {
         Ok(self.intern(Node::Symbol(number))?)
     }
@@ -84,8 +92,10 @@ impl Formulas {
     /// The place of the negation of the formula at a place.
     pub fn not(&mut self, part: usize) -> Result<usize, Memory>
         requires { part < length self.old }
-        ensures extends { Extends self.old self.new }
-        ensures made { IfOk result (λ i. Adds self.old self.new i (not_ (tree_at self.old part))) }
+        ensures longer { length self.old ≤ length self.new }
+        ensures keeps { Keeps self.old self.new }
+        ensures within { IfOk result (λ i. i < length self.new) }
+        ensures tree { IfOk result (λ i. tree_at self.new i ≡ (not_ (tree_at self.old part))) }
     {
         Ok(self.intern(Node::Not(part))?)
     }
@@ -94,8 +104,10 @@ impl Formulas {
     pub fn and(&mut self, left: usize, right: usize) -> Result<usize, Memory>
         requires left { left < length self.old }
         requires right { right < length self.old }
-        ensures extends { Extends self.old self.new }
-        ensures made { IfOk result (λ i. Adds self.old self.new i (and_ (tree_at self.old left) (tree_at self.old right))) }
+        ensures longer { length self.old ≤ length self.new }
+        ensures keeps { Keeps self.old self.new }
+        ensures within { IfOk result (λ i. i < length self.new) }
+        ensures tree { IfOk result (λ i. tree_at self.new i ≡ (and_ (tree_at self.old left) (tree_at self.old right))) }
     {
         Ok(self.intern(Node::And(left, right))?)
     }
@@ -104,8 +116,10 @@ impl Formulas {
     pub fn or(&mut self, left: usize, right: usize) -> Result<usize, Memory>
         requires left { left < length self.old }
         requires right { right < length self.old }
-        ensures extends { Extends self.old self.new }
-        ensures made { IfOk result (λ i. Adds self.old self.new i (or_ (tree_at self.old left) (tree_at self.old right))) }
+        ensures longer { length self.old ≤ length self.new }
+        ensures keeps { Keeps self.old self.new }
+        ensures within { IfOk result (λ i. i < length self.new) }
+        ensures tree { IfOk result (λ i. tree_at self.new i ≡ (or_ (tree_at self.old left) (tree_at self.old right))) }
     {
         Ok(self.intern(Node::Or(left, right))?)
     }
@@ -114,8 +128,10 @@ impl Formulas {
     pub fn implies(&mut self, left: usize, right: usize) -> Result<usize, Memory>
         requires left { left < length self.old }
         requires right { right < length self.old }
-        ensures extends { Extends self.old self.new }
-        ensures made { IfOk result (λ i. Adds self.old self.new i (imp_ (tree_at self.old left) (tree_at self.old right))) }
+        ensures longer { length self.old ≤ length self.new }
+        ensures keeps { Keeps self.old self.new }
+        ensures within { IfOk result (λ i. i < length self.new) }
+        ensures tree { IfOk result (λ i. tree_at self.new i ≡ (imp_ (tree_at self.old left) (tree_at self.old right))) }
     {
         Ok(self.intern(Node::Implies(left, right))?)
     }
@@ -124,8 +140,10 @@ impl Formulas {
     pub fn iff(&mut self, left: usize, right: usize) -> Result<usize, Memory>
         requires left { left < length self.old }
         requires right { right < length self.old }
-        ensures extends { Extends self.old self.new }
-        ensures made { IfOk result (λ i. Adds self.old self.new i (iff_ (tree_at self.old left) (tree_at self.old right))) }
+        ensures longer { length self.old ≤ length self.new }
+        ensures keeps { Keeps self.old self.new }
+        ensures within { IfOk result (λ i. i < length self.new) }
+        ensures tree { IfOk result (λ i. tree_at self.new i ≡ (iff_ (tree_at self.old left) (tree_at self.old right))) }
     {
         Ok(self.intern(Node::Iff(left, right))?)
     }

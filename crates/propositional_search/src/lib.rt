@@ -14,3 +14,6 @@ mod values;
 pub use formulas::Formulas;
 pub use node::Node;
 pub use search::{Answer, decide};
+
+#[cfg(test)]
+mod tests;

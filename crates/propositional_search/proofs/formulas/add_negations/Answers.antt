@@ -1,5 +1,6 @@
-use Rattle.std.proofs.Common.{rules, ◌≡◌, ◌<◌, ◌++◌, ◌∷◌, [], length, ℕ, sym, ap, ◌∙◌, subst, arith}
+use Rattle.std.proofs.Common.{length, sym, subst}
 use Rattle.propositional_search.specs.Ready.{IsPrepared}
+use Rattle.propositional_search.proofs.Interned.{Extends-from, Adds-from}
 use Rattle.propositional_search.proofs.Prepared.{prepared_none, prepared_more}
 use Rattle.propositional_search.proofs.formulas.add_negations.Goals as goal
 
@@ -11,4 +12,4 @@ loop-place-init c =
 
 pub loop-place-preserved : goal.loop-place-preserved
 loop-place-preserved c =
-    prepared_more c.args.formulas.now c.loop-place.formulas c.intern.new.self c.loop-place.negations.items c.push.new.self.items c.len-count.result c.loop-place.place c.in_ok-negation.negation c.loop-place.invariant c.loop-place-test.true c.in_ok-negation.ensures.extends c.in_ok-negation.ensures.made c.in_ok-negation.ensures.grows c.in_ok-push.ensures.items
+    prepared_more c.args.formulas.now c.loop-place.formulas c.intern.new.self c.loop-place.negations.items c.push.new.self.items c.len-count.result c.loop-place.place c.in_ok-negation.negation c.loop-place.invariant c.loop-place-test.true (Extends-from _ _ c.in_ok-negation.ensures.longer c.in_ok-negation.ensures.keeps) (Adds-from _ _ _ _ c.in_ok-negation.ensures.within c.in_ok-negation.ensures.tree) c.in_ok-negation.ensures.grows c.in_ok-push.ensures.items

@@ -1,4 +1,3 @@
-use Rattle.std.proofs.Common.{◌≡◌}
 use Rattle.propositional_search.specs.Ready.{IsPrepared}
 use Rattle.propositional_search.proofs.formulas.add_negations.Given as goal
 

@@ -1,4 +1,4 @@
-use Rattle.std.proofs.Common.{rules, ◌≡◌, ◌<◌, ◌∷◌, [], length, map, false, sym, ap, ◌∙◌, subst, arith}
+use Rattle.std.proofs.Common.{◌≡◌, ◌∷◌, [], map, false, sym, ap, ◌∙◌, subst}
 use Rattle.tableau_definition.specs.Search.{search}
 use Rattle.propositional_search.specs.Nodes.{tree_at}
 use Rattle.propositional_search.specs.Answers.{Answers, answer_of}

@@ -1,5 +1,5 @@
-use Rattle.std.proofs.Common.{rules, ◌≡◌, ◌∷◌, [], ℕ, ◌+◌, ◌-◌, ◌<◌, ◌≤◌, ◌++◌, reverse, arith, refl, ap, sym, ◌∙◌}
-use Rattle.propositional_search.specs.Steps.{with_place, advanced, start_at, run_at, decided}
+use Rattle.std.proofs.Common.{rules, ◌≡◌, ◌∷◌, [], ◌-◌, ◌<◌, reverse, arith, ap, sym, ◌∙◌}
+use Rattle.propositional_search.specs.Steps.{run_at, decided}
 use Rattle.propositional_search.specs.declared.choose.Decision.TheVariants.{Stuck}
 use Rattle.propositional_search.proofs.RunLaws.{turned, run-none, run-stuck, run-spent, reverse-push}
 use Rattle.propositional_search.proofs.search.run.Goals as goal

@@ -1,5 +1,5 @@
-use Rattle.std.proofs.Common.{rules, ◌≡◌, [], sym, subst}
-use Rattle.propositional_search.specs.Nodes.{IsArena, IsBank, trees_of}
+use Rattle.std.proofs.Common.{rules, ◌≡◌, []}
+use Rattle.propositional_search.specs.Nodes.{IsArena, trees_of}
 use Rattle.propositional_search.proofs.NodeLaws.{IsBank-none}
 use Rattle.propositional_search.proofs.formulas.Formulas.new.Goals as goal
 
