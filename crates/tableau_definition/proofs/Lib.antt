@@ -22,3 +22,4 @@ pub mod Contracts
 pub mod Rooms
 pub mod Unifier
 pub mod Telling
+pub mod Applied

@@ -15,7 +15,8 @@ mod propositional;
 
 pub use laws::{
     answer_is_general, answer_unifies, atoms_have_room, closed_derives, closed_has_tree,
-    none_means_none, rule_is_sided, rule_tells, tree_derives, tree_refutes, unifier_has_room,
+    first_is_by_rank, none_means_none, rule_is_sided, rule_tells, searched_is_closed, tree_derives,
+    tree_refutes, unifier_has_room,
 };
 pub use propositional::{
     only_connective_closings, only_connective_rules, only_connective_values, starts_propositional,
