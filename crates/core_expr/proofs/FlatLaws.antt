@@ -1,5 +1,6 @@
 -- Laws of the nodes of an expression.
-use Rattle.std.proofs.Common.{◌≡◌, ℕ, zero, suc, ◌+◌, ◌-◌, ◌<◌, ◌≤◌, List, [], ◌∷◌, ◌++◌, length, get_or, Bool, true, false, ◌&&◌, cond, nat_lt, nat_le, inl, inr, refl, ap, sym, ◌∙◌, arith, append_assoc, append-nil, take}
+use Rattle.std.proofs.Common.{◌≡◌, ℕ, zero, suc, ◌+◌, ◌-◌, ◌<◌, List, [], ◌∷◌, ◌++◌, length, get_or, Bool, true, false, ◌&&◌, cond, nat_lt, nat_le, inl, inr, refl, ap, sym, ◌∙◌, arith, append_assoc, append-nil, take}
+use Rattle.std.specs.Prelude.{Result, Ok, Err, IfOk}
 use Rattle.std.proofs.lemmas.Grind.{take_at_read}
 use Rattle.std.proofs.lemmas.Bool.Decides.{nat_tests}
 use Rattle.std.proofs.lemmas.Bool.{and_parts, and_from, cases_lt}
@@ -10,12 +11,11 @@ use Rattle.core_expr.specs.Tree.Tree.{bound, app, node, bind}
 use Rattle.core_expr.specs.Tree.Parts.{end, part}
 use Rattle.core_expr.specs.Put.{shift, argument, put, puts, inst, IsScoped, AreScoped}
 use Rattle.core_expr.specs.Terms.{is_scoped, are_scoped}
-use Rattle.core_expr.specs.Heads.{first, table_numbers, plain_fits, is_well_formed, are_well_formed}
+use Rattle.core_expr.specs.Heads.{table_numbers, is_well_formed}
 use Rattle.core_expr.specs.Flat.{row, rows_at, rows_of, all_rows, tree_of}
 use Rattle.core_expr.specs.Rows.{raised_row, raised, replace_row, replaced, row_scoped, rows_scoped}
 use Rattle.core_expr.specs.Coding.{tree_of-rows_of}
 use Rattle.core_expr.proofs.Laws.{shift_closed, size-puts}
-use Rattle.core_expr.proofs.Formed.{formed-put}
 
 raised-append : (d : ℕ) (rs qs : List Row) → raised d (rs ++ qs) ≡ raised d rs ++ raised d qs
 raised-append d [] qs = refl
@@ -132,3 +132,7 @@ pub scoped_not : (n : ℕ) (rs : List Row) (i : ℕ) (r : Row) → i < length rs
 scoped_not n [] i r h e o = absurd (omega arith)
 scoped_not n (x ∷ rs) zero r h e o = rw e ((and_parts (row_scoped n x.kind x) (rows_scoped n rs) o).0)
 scoped_not n (x ∷ rs) (suc i) r h e o = scoped_not n rs i r (omega arith) e ((and_parts (row_scoped n x.kind x) (rows_scoped n rs) o).1)
+
+pub ok_same : {E : Type 0} (r : Result Tree E) (a b : Tree) → a ≡ b → IfOk r (λ e. e ≡ a) → IfOk r (λ e. e ≡ b)
+ok_same (Ok e) a b p h = h ∙ p
+ok_same (Err e) a b p h = h

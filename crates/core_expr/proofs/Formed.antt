@@ -1,5 +1,5 @@
 -- Putting in and moving variables leave trees well formed.
-use Rattle.std.proofs.Common.{◌≡◌, ℕ, suc, ◌-◌, Bool, true, false, ◌&&◌, cond, nat_lt, nat_eq, refl, ap, sym, ◌∙◌}
+use Rattle.std.proofs.Common.{◌≡◌, ℕ, suc, ◌-◌, Bool, true, false, ◌&&◌, cond, nat_lt, nat_eq, refl, ◌∙◌}
 use Rattle.std.proofs.lemmas.Bool.{and_parts, and_from}
 use Rattle.core_expr.specs.Tree.{Tree, Parts, size}
 use Rattle.core_expr.specs.Tree.Tree.{bound, app, node, bind}

@@ -1,5 +1,6 @@
 -- A tree as its nodes in order of completion from left to right, one for each occurrence, the root last; and back.
 use Rattle.std.specs.Prelude.{ℕ, zero, suc, List, [], ◌∷◌, ◌++◌}
+use Rattle.std.proofs.Common.{get_or}
 use Rattle.core_expr.specs.declared.row.Row.{Row}
 use Rattle.core_expr.specs.declared.row.RowKind.{RowKind}
 use Rattle.core_expr.specs.declared.row.RowKind.TheVariants.{Bound, Symbol, Plain, Binding}
@@ -56,3 +57,7 @@ top (e ∷ st) = e
 -- the tree of these nodes
 abbrev pub tree_of : List Row → Tree
 tree_of rs = top (build rs [])
+
+-- the node at a place; past the last, the bound variable 0
+abbrev pub row_at : Tree → ℕ → Row
+row_at t i = get_or (rows_of t) i (row Bound (0 ∷ []) 0 0)

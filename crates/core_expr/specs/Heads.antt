@@ -1,5 +1,5 @@
 -- The table of heads: the number of each head, which numbers and parts a node may have, and the node over given parts.
-use Rattle.std.specs.Prelude.{ℕ, ◌+◌, Bool, true, false, IsTrue, ◌&&◌, nat_lt, nat_eq, Option, Some, None, List, [], ◌∷◌, length}
+use Rattle.std.specs.Prelude.{ℕ, ◌+◌, ◌<◌, Bool, true, false, IsTrue, ◌&&◌, nat_lt, nat_eq, Option, Some, None, List, [], ◌∷◌, ◌++◌, length}
 use Rattle.std.proofs.Common.{get_or}
 use Rattle.core_expr.specs.declared.head.Sym.{Sym}
 use Rattle.core_expr.specs.declared.head.Head.{Head}
@@ -142,6 +142,17 @@ abbrev pub parts_of : List Tree → Parts
 parts_of [] = end
 parts_of (t ∷ ts) = part t (parts_of ts)
 
+abbrev pub list_of : Parts → List Tree
+list_of end = []
+list_of (part e ps) = e ∷ list_of ps
+
+-- the parts of a node, a binder's body last
+abbrev pub subtrees : Tree → List Tree
+subtrees (bound i) = []
+subtrees (app f ps) = list_of ps
+subtrees (node h ns ps) = list_of ps
+subtrees (bind b ps e) = list_of ps ++ e ∷ []
+
 -- all but the last
 abbrev pub front : List Tree → List Tree
 front [] = []
@@ -180,3 +191,8 @@ abbrev mutual
 -- every node has the numbers and the number of parts that the table asks
 abbrev pub IsWellFormed : Tree → Type 0
 IsWellFormed t = IsTrue (is_well_formed t)
+
+-- a binder has a part, its body
+abbrev pub HasBody : RowKind → ℕ → Type 0
+HasBody (Binding b) k = 0 < k
+HasBody _ k = Unit {0}

@@ -2,7 +2,7 @@
 use Rattle.std.specs.Prelude.{ℕ, ◌+◌, Bool, true, false, ◌&&◌, cond, nat_lt, nat_le, List, [], ◌∷◌, ◌++◌}
 use Rattle.core_expr.specs.declared.row.Row.{Row}
 use Rattle.core_expr.specs.declared.row.RowKind.{RowKind}
-use Rattle.core_expr.specs.declared.row.RowKind.TheVariants.{Bound, Symbol, Plain, Binding}
+use Rattle.core_expr.specs.declared.row.RowKind.TheVariants.{Bound}
 use Rattle.core_expr.specs.Heads.{first}
 
 -- the node under d more binders

@@ -4,13 +4,19 @@
 //! with their laws, and texts.
 #![tactic(auto)]
 
+mod canon;
+mod compare;
 mod expr;
+mod forest;
 mod head;
+mod kinds;
 mod memory;
 mod row;
 mod rows;
+mod spans;
 mod text;
 
+pub use canon::Canon;
 pub use expr::Expr;
 pub use head::{Binder, Head, Sym, SymKind};
 pub use memory::Memory;

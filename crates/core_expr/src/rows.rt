@@ -46,7 +46,12 @@ fn copy_row(alloc: Global, row: &Row, depth: u64) -> Result<Row, Memory>
 }
 
 /// Puts the nodes of `by`, under `depth` more binders, at the end of `out`.
-fn raise(alloc: Global, out: &mut Items<Row>, by: &[Row], depth: u64) -> Result<(), Memory>
+pub(crate) fn raise(
+    alloc: Global,
+    out: &mut Items<Row>,
+    by: &[Row],
+    depth: u64,
+) -> Result<(), Memory>
     ensures { OnOk result (out.new ≡ out.old ++ raised depth by.now) }
 {
     for row in by {

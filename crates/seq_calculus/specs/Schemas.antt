@@ -2,14 +2,13 @@
 use Rattle.std.specs.Prelude.{ℕ, zero, suc, ◌+◌, Bool, true, false, not, cond, nat_le, nat_eq, Option, Some, None, List, [], ◌∷◌, length, take, drop}
 use Rattle.core_expr.specs.Tree.{Tree, Parts, true_, false_, boolean_, not_, and_, or_, imp_, iff_, eq_, in_, subseteq_, cup_, cap_, diff_, power_, union_, funset_, dom_, apply_, except_, if_, enum_, tuple_, num_, str_, all_, ex_, choose_, filter_, image_, fun_}
 use Rattle.core_expr.specs.Tree.Tree.{bound}
-use Rattle.core_expr.specs.Tree.Parts.{end, part}
+use Rattle.core_expr.specs.Heads.{parts_of}
 use Rattle.core_expr.specs.Put.{inst, shift}
 use Rattle.core_expr.specs.Terms.{lists_equal, is_scoped}
 
 -- the parts of a list
 abbrev pub parts : List Tree → Parts
-parts [] = end
-parts (e ∷ es) = part e (parts es)
+parts es = parts_of es
 
 -- x, joined from the left with the rest
 abbrev pub join_from : (Tree → Tree → Tree) → Tree → List Tree → Tree

@@ -9,3 +9,4 @@ pub mod Told
 pub mod Unifiers
 pub mod Propositional
 pub mod Laws
+pub mod Reduced

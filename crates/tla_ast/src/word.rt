@@ -1,4 +1,4 @@
-ghost use Rattle.std.specs.Prelude.{◌≡◌, map};
+ghost use Rattle.std.specs.Prelude.{◌≡◌, ◌≤◌, IsTrue, length, map};
 ghost use Rattle.std.specs.List.{list_all, list_any};
 ghost use Rattle.std.specs.Char.{is_ascii_alphabetic};
 ghost use Rattle.tla_ast.specs.Word as spec;
@@ -92,7 +92,8 @@ pub fn is_reserved(word: &[u8]) -> bool
 
 /// Whether a text begins with `WF_` or `SF_`, which are signs of fairness wherever a word begins with them.
 pub fn begins_with_fairness(text: &[u8]) -> bool
-    ensures { result ≡ spec.begins_with_fairness text.now }
+    ensures value { result ≡ spec.begins_with_fairness text.now }
+    ensures within { IsTrue result → 3 ≤ length text.now }
 {
     text.starts_with(b"WF_") || text.starts_with(b"SF_")
 }

@@ -1,5 +1,5 @@
-use Rattle.std.proofs.Common.{arith, rules}
-use Rattle.std.proofs.lemmas.Bool.{true_from_ne_false, false_from_ne_true, false≢true}
+use Rattle.std.proofs.Common.{rules}
+use Rattle.std.proofs.lemmas.Bool.{false_from_ne_true, false≢true}
 use Rattle.std.proofs.Common.{◌≡◌, true, false, sym, ◌∙◌}
 use Rattle.core_expr.specs.Rows.{row_scoped, rows_scoped}
 use Rattle.core_expr.proofs.FlatLaws.{scoped_step, scoped_not}

@@ -1,4 +1,4 @@
-use Rattle.std.proofs.Common.{◌≡◌, ap, sym, ◌∙◌, IsTrue}
+use Rattle.std.proofs.Common.{◌≡◌, ap, sym, ◌∙◌}
 use Rattle.core_expr.specs.Flat.{rows_of}
 use Rattle.core_expr.specs.Rows.{rows_scoped}
 use Rattle.core_expr.specs.Terms.{is_scoped}
