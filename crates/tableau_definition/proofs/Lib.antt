@@ -28,3 +28,4 @@ pub mod Decides
 pub mod Rooms
 pub mod Unifier
 pub mod Telling
+pub mod Applied

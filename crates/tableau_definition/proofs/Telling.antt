@@ -1,6 +1,6 @@
 -- What the rank and the case of a rule tell of its result.
-use Rattle.std.specs.Prelude.{◌≡◌, ℕ, zero, suc, ◌+◌, Bool, true, false, nat_le, nat_eq, Option, Some, None, List, [], ◌∷◌}
-use Rattle.std.proofs.Common.{refl, ap, sym, ◌∙◌, arith, subst}
+use Rattle.std.specs.Prelude.{◌≡◌, ℕ, suc, ◌+◌, Bool, true, false, nat_le, nat_eq, Option, Some, None, List, [], ◌∷◌}
+use Rattle.std.proofs.Common.{refl, sym, arith, subst, inl, inr}
 use Rattle.core_expr.specs.Tree.{Tree, not_, and_, or_, imp_, iff_, eq_, in_, funset_, dom_, apply_, if_, all_, ex_, choose_, fun_}
 use Rattle.core_expr.specs.Tree.Tree.{bound}
 use Rattle.core_expr.specs.Put.{inst, shift}
@@ -10,12 +10,12 @@ use Rattle.tableau_definition.specs.Terms.{first_some, first_at, occurs, replace
 use Rattle.tableau_definition.specs.Branches.{Branch, formulas, alive, has}
 use Rattle.tableau_definition.specs.Values.{Truth, Valued, value, all_yes, first_no}
 use Rattle.tableau_definition.specs.Values.Truth.{Yes, No, Unknown}
-use Rattle.tableau_definition.specs.Ranks.{Side, Step, Result, Left, Rewrite, Signed, oldest, left_side, by_left, by_not_left, plain, rewrite_of, rewritten, rewrite, is_set, same_members, is_fun, derive_members, derive_set, at_all, derive_fun, with_fun, derive_not, derive, gives, derives, sides_of, replaced_by, by_equation, replace_rule, choice, literal, split, settle_sides, settle, split_on, is_split_term, split_at, term_split, extension, untaken, take_up}
+use Rattle.tableau_definition.specs.Ranks.{Side, Step, Result, Left, Rewrite, Signed, oldest, left_side, by_left, by_not_left, plain, rewrite_of, rewritten, rewrite, is_set, same_members, is_fun, derive_members, derive_set, at_all, derive_fun, with_fun, derive_not, derive, gives, derives, sides_of, replaced_by, by_equation, replace_rule, choice, literal, split, settle_sides, settle, is_split_term, split_at, term_split, extension, untaken, take_up}
 use Rattle.tableau_definition.specs.Instances.{Universal, universal, instance, is_new, found_instance, Place, places, insert, by_count, instance_result, at_place, instance_rule, spare_at, spare_rule}
-use Rattle.tableau_definition.specs.Search.{first_rule}
-use Rattle.tableau_definition.specs.Told.{stays_by, rises_by, StayBy, LiveAt, OneOrTwo, Told}
-use Rattle.tableau_definition.proofs.Sides.{Sided, FineResult, Holds, first_at-holds, first_some-holds}
-use Rattle.tableau_definition.proofs.Sound.{first_rule-fine}
+use Rattle.tableau_definition.specs.Search.{by_rank, Among, Applies}
+use Rattle.tableau_definition.specs.Told.{rises_by, StayBy, LiveAt, OneOrTwo, Told}
+use Rattle.tableau_definition.proofs.Sides.{Sided, Holds, first_at-holds, first_some-holds}
+use Rattle.tableau_definition.proofs.Sound.{applies-fine}
 use Rattle.tableau_definition.proofs.Turned.{true_not_false}
 
 abbrev StepTold : ℕ → Tree → Step → Type 0
@@ -361,28 +361,54 @@ take_up-told b f = go (literal f) (first_at (untaken b) f)
     go (Some l) None = tt
     go (Some l) (Some p) = ([], refl, refl, (refl, (refl, tt)))
 
-or_told : (b : Branch) (o p : Option Result) → Holds (ToldFrom 0 b) o → Holds (ToldFrom 0 b) p → Holds (ToldFrom 0 b) (elim o [ Some r ↦ Some r | None ↦ p ])
-or_told b None p h k = k
-or_told b (Some r) p h k = h
+abbrev AllTold : Branch → List (Option Result) → Type 0
+AllTold b [] = Unit {0}
+AllTold b (o ∷ os) = Holds (ToldFrom 0 b) o × AllTold b os
 
-first_rule-told : (w : Tree) (b : Branch) → Holds (ToldFrom 0 b) (first_rule w b)
-first_rule-told w b =
-    or_told b (oldest 1 plain 0 b) _ (oldest-told 1 plain plain-told 0 b)
-    (or_told b (oldest 2 rewrite 0 b) _ (oldest-told 2 rewrite rewrite-told 0 b)
-    (or_told b (oldest 3 (derive b) 0 b) _ (oldest-told 3 (derive b) (derive-told b) 0 b)
-    (or_told b (replace_rule b) _ (replace_rule-told b)
-    (or_told b (oldest 5 (settle b) 0 b) _ (oldest-told 5 (settle b) (settle-told b) 0 b)
-    (or_told b (oldest 6 choice 0 b) _ (oldest-told 6 choice choice-told 0 b)
-    (or_told b (oldest 7 split 0 b) _ (oldest-told 7 split split-told 0 b)
-    (or_told b (oldest 8 (term_split b) 0 b) _ (oldest-told 8 (term_split b) (term_split-told b) 0 b)
-    (or_told b (oldest 9 extension 0 b) _ (oldest-told 9 extension extension-told 0 b)
-    (or_told b (instance_rule w b) _ (instance_rule-told w b)
-    (or_told b (spare_rule w b) _ (spare_rule-told w b)
-    (oldest-told 12 (take_up b) (take_up-told b) 0 b)))))))))))
+ranks-told : (w : Tree) (b : Branch) → AllTold b (by_rank w b)
+ranks-told w b = (
+  oldest-told 1 plain plain-told 0 b,
+  (
+    oldest-told 2 rewrite rewrite-told 0 b,
+    (
+      oldest-told 3 (derive b) (derive-told b) 0 b,
+      (
+        replace_rule-told b,
+        (
+          oldest-told 5 (settle b) (settle-told b) 0 b,
+          (
+            oldest-told 6 choice choice-told 0 b,
+            (
+              oldest-told 7 split split-told 0 b,
+              (
+                oldest-told 8 (term_split b) (term_split-told b) 0 b,
+                (
+                  oldest-told 9 extension extension-told 0 b,
+                  (
+                    instance_rule-told w b,
+                    (
+                      spare_rule-told w b,
+                      (oldest-told 12 (take_up b) (take_up-told b) 0 b, tt),
+                    ),
+                  ),
+                ),
+              ),
+            ),
+          ),
+        ),
+      ),
+    ),
+  ),
+)
 
-pub rule-told : (w : Tree) (b : Branch) (r : Result) → first_rule w b ≡ Some r → Told b r
+among-told : (b : Branch) (os : List (Option Result)) (r : Result) → AllTold b os → Among os r → ToldFrom 0 b r
+among-told b [] r h k = absurd k
+among-told b (o ∷ os) r h (inl e) = subst (Holds (ToldFrom 0 b)) e h.0
+among-told b (o ∷ os) r h (inr k) = among-told b os r h.1 k
+
+pub rule-told : (w : Tree) (b : Branch) (r : Result) → Applies w b r → Told b r
 rule-told w b r e =
-    let k : ToldFrom 0 b r = subst (Holds (ToldFrom 0 b)) e (first_rule-told w b) in
+    let k : ToldFrom 0 b r = among-told b (by_rank w b) r (ranks-told w b) e in
     let at : r.entry ≡ k.3.0 = zeroth r.entry k.3.0 k.3.1 in
     (k.0, k.1, k.2, subst (λ j. LiveAt b j k.0) (sym at) k.3.2, k.4, k.5)
   where
@@ -395,7 +421,7 @@ one_or_two (s ∷ []) h = h.0
 one_or_two (l ∷ r ∷ []) h = (h.0, h.1.0)
 one_or_two (l ∷ r ∷ s ∷ ss) h = h
 
-pub rule-sided : (w : Tree) (b : Branch) (r : Result) → IsClosed w → AllClosed (formulas b) → first_rule w b ≡ Some r → HasAll (formulas b) r.step.named × OneOrTwo r.step.sides
+pub rule-sided : (w : Tree) (b : Branch) (r : Result) → IsClosed w → AllClosed (formulas b) → Applies w b r → HasAll (formulas b) r.step.named × OneOrTwo r.step.sides
 rule-sided w b r cw cb e =
-    let f = subst (FineResult (formulas b)) e (first_rule-fine w b cw cb) in
+    let f = applies-fine w b cw cb r e in
     (f.0, one_or_two r.step.sides (f.1 (formulas b) cb f.0).0)
