@@ -1,5 +1,5 @@
 // A cache file in memory.
-ghost use Rattle.std.specs.Prelude.{◌≡◌, ◌≢◌, ◌↔◌, List, ℕ, Some, take, is_some, IfOk, OnOk, IsErr, IsErrOf};
+ghost use Rattle.std.specs.Prelude.{◌≡◌, ◌≢◌, ◌↔◌, List, ℕ, Some, None, take, is_some, IfOk, OnOk, IsErr, IsErrOf};
 ghost use Rattle.tla_io.specs.Causes.{HasCause, HasCacheCause};
 ghost use Rattle.tla_io.specs.InMemory.{schedule, FailsNext, content_of, content_or_empty, after_read, after_replace};
 ghost use Rattle.tla_io.specs.Told.{ReadsFront, with_content};
@@ -65,6 +65,7 @@ impl CacheFile for MemCache {
         ensures same { content_of self.new ≡ content_of self.old }
         ensures cause { HasCacheCause self.old.calls.faults self.new.calls.faults result }
         ensures failed { IsErrOf result CacheFault.Failed ↔ FailsNext self.old.calls }
+        ensures other { content_of self.old file.now ≡ None → ¬ (IsErrOf result CacheFault.Memory) }
         ensures front { IfOk result (λ v. v.items ≡ take at_most (content_or_empty self.old file.now)) }
         ensures after { self.new ≡ after_read self.old result }
     {

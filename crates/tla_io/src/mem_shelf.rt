@@ -1,5 +1,5 @@
 // A shelf in memory.
-ghost use Rattle.std.specs.Prelude.{◌≡◌, ◌↔◌, Some, option_map, take, IsErrOf};
+ghost use Rattle.std.specs.Prelude.{◌≡◌, ◌↔◌, Some, None, option_map, IsOk, IsErrOf};
 ghost use Rattle.tla_io.specs.Causes.{HasShelfCause};
 ghost use Rattle.tla_io.specs.InMemory.{schedule, FailsNext, entries_of, after_fetch};
 ghost use Rattle.tla_io.specs.Told.{folder_of, Fetches};
@@ -64,6 +64,7 @@ fn look_up(
 ) -> Result<Option<Vec<u8>>, ShelfFault>
     ensures told { Fetches (Some (folder_of (entries_of entries.now))) name.now at_most result }
     ensures never { ¬ (IsErrOf result ShelfFault.Failed) }
+    ensures absent { folder_of (entries_of entries.now) name.now ≡ None → IsOk result }
 {
     let Some(text) = entry(entries, name) else {
         return Ok(None);
@@ -89,6 +90,7 @@ impl Shelf for MemShelf {
         ensures same { self.new.entries ≡ self.old.entries }
         ensures cause { HasShelfCause self.old.calls.faults self.new.calls.faults result }
         ensures failed { IsErrOf result ShelfFault.Failed ↔ FailsNext self.old.calls }
+        ensures absent { folder_of self.old.entries name.now ≡ None → ¬ (IsErrOf result ShelfFault.Memory) }
         ensures after { self.new ≡ after_fetch self.old result }
     {
         if self.calls.begin() {

@@ -1,5 +1,6 @@
 // The standard output.
-ghost use Rattle.std.specs.Prelude.{◌≡◌, None};
+ghost use Rattle.std.specs.Prelude.{◌≡◌, ◌≤◌, ◌<◌, None, IfOk, length, take};
+ghost use Rattle.std.specs.Io.KnownBytes.{Appends};
 
 use crate::faults::Failed;
 use crate::sink::Sink;
@@ -32,19 +33,29 @@ impl<W: Write + Drop> StdSink<W> {
     }
 }
 
+// One write of the writer's, which fails where it takes nothing of a piece that is not empty.
+fn write_once<W: Write>(writer: &mut W, piece: &[u8]) -> Result<u64, Failed>
+    ensures within { IfOk result (λ n. n ≤ length piece.now) }
+    ensures some { IfOk result (λ n. 0 < length piece.now → 0 < n) }
+    ensures written { IfOk result (λ n. Appends (W.contents writer.old) (W.contents writer.new) (take n piece.now)) }
+{
+    match writer.write(piece) {
+        Ok(count) if 0 < count || piece.is_empty() => Ok(count as u64),
+        _ => Err(Failed),
+    }
+}
+
 impl<W: Write + Drop> Sink for StdSink<W> {
     ghost taken = { λ _. None };
 
     ghost count = { λ s. s };
 
     fn write(&mut self, piece: &[u8]) -> Result<u64, Failed> {
-        match self.writer.write(piece) {
-            Ok(count) if 0 < count || piece.is_empty() => Ok(count as u64),
-            _ => {
-                self.faults = self.faults.saturating_add(1);
-                Err(Failed)
-            }
+        let result = write_once(&mut self.writer, piece);
+        if result.is_err() {
+            self.faults = self.faults.saturating_add(1);
         }
+        result
     }
 
     fn faults(&self) -> u64 {

@@ -187,6 +187,7 @@ fn a_cache_of_real_files(rt: HostRuntime) -> Result<(), Fail> {
     }
     assert_eq!(rt; cache.faults(), 3);
     assert!(rt; !fs::exists(&rt, "cache_test/c.new")?);
+    fs::remove_file(&rt, "cache_test.new")?;
     fs::remove_dir_all(&rt, "cache_test")?;
     Ok(())
 }
