@@ -165,7 +165,7 @@ tokens-lie bytes ts e = go (nat_lt 1048576 (length bytes)) (find bytes) refl e
   where
     go : (b : Bool) (o : Option Found) → find bytes ≡ o → cond b (Err (fault.At first TooLong)) (tokens_by bytes o) ≡ Ok ts
         → (f : Found) × (find bytes ≡ Some f) × (ts.name ≡ f.header.name) × (ts.header ≡ after first (take f.at bytes))
-          × Laid (after ts.header (take f.header.length (drop f.at bytes))) (drop (f.at + f.header.length) bytes) ts.list × IsTokenList ts.list
+        × Laid (after ts.header (take f.header.length (drop f.at bytes))) (drop (f.at + f.header.length) bytes) ts.list × IsTokenList ts.list
     go true o h e = absurd (subst Whole (sym e) tt)
     go false None h e = absurd (subst Whole (sym e) tt)
     go false (Some f) h e =
