@@ -1,6 +1,6 @@
 -- What stands at the front of a text is what it is spelled as.
-use Rattle.std.proofs.Common.{◌≡◌, ℕ, zero, suc, ◌+◌, ◌-◌, ◌*◌, ◌^◌, ◌<◌, ◌≤◌, Bool, true, false, cond, not, ◌&&◌, ◌||◌, ◌==◌, nat_eq, nat_lt, nat_le, ◌⊎◌, inl, inr, List, [], ◌∷◌, ◌++◌, length, take, drop, get_or, slice_index, Option, Some, None, refl, sym, subst, ap, ◌∙◌, arith, length-drop, length-take, length-append, append_assoc, min, codes}
-use Rattle.std.specs.List.{list_all, list_any, prefix_len, starts_with}
+use Rattle.std.proofs.Common.{◌≡◌, ℕ, zero, suc, ◌+◌, ◌-◌, ◌<◌, ◌≤◌, Bool, true, false, cond, not, ◌&&◌, ◌||◌, ◌==◌, nat_eq, nat_lt, nat_le, ◌⊎◌, inl, inr, List, [], ◌∷◌, ◌++◌, length, take, drop, get_or, slice_index, Option, Some, None, refl, sym, subst, ap, ◌∙◌, arith, length-take, length-append, append_assoc, min, codes}
+use Rattle.std.specs.List.{list_all, list_any, starts_with}
 use Rattle.std.specs.Char.{is_ascii_digit, is_ascii_alphabetic}
 use Rattle.std.specs.Cmp.Lexicographic.{pointwise}
 use Rattle.std.proofs.lemmas.List.Sums.{prefix_len-le-length}
@@ -141,11 +141,11 @@ inside d [] n e = absurd (none-some n e)
 inside d (b ∷ []) n e = absurd (none-some n e)
 inside d (b ∷ c ∷ z) n e =
     by-cond (λ o. o ≡ Some n → Closed d (b ∷ c ∷ z) n) (opens b c) (longer 2 (rest_len (suc d) z)) (cond (closes b c) (cond (d == 0) (Some 2) (longer 2 (rest_len (d - 1) z))) (longer 1 (rest_len d (c ∷ z))))
-      (λ o. open-step d b c z n o (λ m. inside (suc d) z m))
-      (λ neither. by-cond (λ o. o ≡ Some n → Closed d (b ∷ c ∷ z) n) (closes b c) (cond (d == 0) (Some 2) (longer 2 (rest_len (d - 1) z))) (longer 1 (rest_len d (c ∷ z)))
-        (λ o. close-step d b c z n o (λ f m. inside f z m))
-        (λ nor. pass-step d b c z n neither nor (λ m. inside d (c ∷ z) m)))
-      e
+    (λ o. open-step d b c z n o (λ m. inside (suc d) z m))
+    (λ neither. by-cond (λ o. o ≡ Some n → Closed d (b ∷ c ∷ z) n) (closes b c) (cond (d == 0) (Some 2) (longer 2 (rest_len (d - 1) z))) (longer 1 (rest_len d (c ∷ z)))
+    (λ o. close-step d b c z n o (λ f m. inside f z m))
+    (λ nor. pass-step d b c z n neither nor (λ m. inside d (c ∷ z) m)))
+    e
 
 comment-base : (z : Text) → Fits (40 ∷ 42 ∷ z) (comment (rest_len 0 z))
 comment-base z = go (rest_len 0 z) refl
@@ -165,17 +165,20 @@ front-len k z h = omega (arith, length-take {A = ℕ})
 fits-word : (k : ℕ) (z : Text) → 1 ≤ k → k ≤ length z → Fits z (word (take k z))
 fits-word k z some le =
     by-cond (Fits z) (list_all is_ascii_digit run) (number run) other
-      (λ digits. by-cond (Fits z) (is_small run) (Token (tok.Number (value_of run)) (length run)) (Fault NumberTooLarge 0) (λ s. whole (tok.Number (value_of run)) refl (digits, refl)) (λ s. tt))
-      (λ d. by-cond (Fits z) (list_any is_ascii_alphabetic run) (Token (tok.Word run) (length run)) sole
-        (λ a. whole (tok.Word run) refl refl)
-        (λ a. by-cond (Fits z) (pointwise nat_eq run (codes "_")) (Token (tok.Sign run) (length run)) (Fault BadByte 0) (λ u. whole (tok.Sign run) refl (inl refl)) (λ u. tt)))
+    (λ digits. by-cond (Fits z) (is_small run) (Token (tok.Number (value_of run)) (length run)) (Fault NumberTooLarge 0) (λ s. whole (tok.Number (value_of run)) refl (digits, refl)) (λ s. tt))
+    (λ d. by-cond (Fits z) (list_any is_ascii_alphabetic run) (Token (tok.Word run) (length run)) sole
+    (λ a. whole (tok.Word run) refl refl)
+    (λ a. by-cond (Fits z) (pointwise nat_eq run (codes "_")) (Token (tok.Sign run) (length run)) (Fault BadByte 0) (λ u. whole (tok.Sign run) refl (inl refl)) (λ u. tt)))
   where
     run : Text
     run = take k z
+
     sole : Piece
     sole = cond (pointwise nat_eq (take k z) (codes "_")) (Token (tok.Sign (take k z)) (length (take k z))) (Fault BadByte 0)
+
     other : Piece
     other = cond (list_any is_ascii_alphabetic (take k z)) (Token (tok.Word (take k z)) (length (take k z))) (cond (pointwise nat_eq (take k z) (codes "_")) (Token (tok.Sign (take k z)) (length (take k z))) (Fault BadByte 0))
+
     whole : (t : Tok) → is_last t ≡ false → Spells t (take k z) → Fits z (Token t (length (take k z)))
     whole t l s = subst (λ n. Fits z (Token t n)) (sym (front-len k z le)) (some, le, l, s)
 
@@ -200,13 +203,13 @@ longest-is : (best : Text) (ss : List Text) (z : Text) → Front best z → Fron
 longest-is best [] z f = f
 longest-is best (s ∷ ss) z f =
     longest-is (cond (starts_with nat_eq z s && nat_lt (length best) (length s)) s best) ss z
-      (by-cond (λ x. Front x z) (starts_with nat_eq z s && nat_lt (length best) (length s)) s best (λ e. starts-is s z (both _ _ e).0) (λ e. f))
+    (by-cond (λ x. Front x z) (starts_with nat_eq z s && nat_lt (length best) (length s)) s best (λ e. starts-is s z (both _ _ e).0) (λ e. f))
 
 fits-sign : (s z : Text) → Front s z → Fits z (sign s)
 fits-sign [] z f = tt
 fits-sign (b ∷ s) z f =
     subst (Fits z) (sym (cond-false (length (b ∷ s) == 0) (Fault BadByte 0) (Token (tok.Sign (canonical (b ∷ s))) (length (b ∷ s))) (eqb-suc-zero (length s))))
-      (omega arith, f.0, refl, inr (ap canonical f.1))
+    (omega arith, f.0, refl, inr (ap canonical f.1))
 
 fits-longest : (z : Text) → Fits z (sign (longest z))
 unfolding longest
@@ -231,7 +234,7 @@ step-text d l n w tail is h sixty_two le_l le_n =
     let whole_tail : tail ≡ (a ++ b) ++ rest = sym (take-append-drop l tail) ∙ ap (λ r. a ++ r) (sym (take-append-drop n (drop l tail))) ∙ sym (append_assoc a b rest) in
     let cons : drop d w ≡ 62 ∷ tail = drop-cons w d 0 h ∙ ap (λ k. k ∷ drop (suc d) w) sixty_two ∙ ap (λ r. 62 ∷ r) (sym is) in
     let whole : 60 ∷ w ≡ x ++ rest =
-          ap (λ r. 60 ∷ r) (sym (take-append-drop d w) ∙ ap (λ r. take d w ++ r) (cons ∙ ap (λ r. 62 ∷ r) whole_tail)) ∙ sym (append_assoc (60 ∷ take d w) (62 ∷ a ++ b) rest) in
+    ap (λ r. 60 ∷ r) (sym (take-append-drop d w) ∙ ap (λ r. take d w ++ r) (cons ∙ ap (λ r. 62 ∷ r) whole_tail)) ∙ sym (append_assoc (60 ∷ take d w) (62 ∷ a ++ b) rest) in
     let la : length a ≡ l = front-len l tail le_l in
     let lb : length b ≡ n = front-len n (drop l tail) le_n in
     let ld : length (take d w) ≡ d = front-len d w (omega arith) in
@@ -245,6 +248,7 @@ within w d e = go (nat_lt d (length w)) refl
   where
     zero-not : ◌≡◌ {A = ℕ} 0 62 → ⊥
     zero-not h = omega arith
+
     go : (b : Bool) → nat_lt d (length w) ≡ b → d < length w
     go true t = ltb-true d (length w) t
     go false f = absurd (zero-not (sym (get_or_past w d 0 (ltb-false d (length w) f)) ∙ e))
@@ -259,8 +263,8 @@ step-base w h =
     let n = same_len 46 (drop l tail) in
     let t = step-text d l n w tail is (within w d h) h (prefix_len-le-length is_word_byte tail) (prefix_len-le-length (λ b. b == 46) (drop l tail)) in
     by-cond (Fits (60 ∷ w)) (is_small (take d w)) (Token (tok.Step (value_of (take d w)) (take l tail)) (d + 2 + l + n)) (Fault NumberTooLarge 0)
-      (λ s. (omega arith, t.0, refl, (take d w, take n (drop l tail), t.1, all-prefix is_ascii_digit w, refl, all-prefix (λ b. b == 46) (drop l tail))))
-      (λ s. tt)
+    (λ s. (omega arith, t.0, refl, (take d w, take n (drop l tail), t.1, all-prefix is_ascii_digit w, refl, all-prefix (λ b. b == 46) (drop l tail))))
+    (λ s. tt)
 
 fits-step : (b : ℕ) (z : Text) → is_step (b ∷ z) ≡ true → Fits (b ∷ z) (step (b ∷ z))
 fits-step b z e =

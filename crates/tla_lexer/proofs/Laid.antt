@@ -1,13 +1,11 @@
 -- The tokens and what lies between them are the text.
-use Rattle.std.proofs.Common.{◌≡◌, ℕ, zero, suc, ◌+◌, ◌-◌, ◌*◌, ◌/◌, ◌<◌, ◌≤◌, Bool, true, false, cond, nat_lt, ◌&&◌, ◌||◌, ◌==◌, ◌⊎◌, inl, inr, List, [], ◌∷◌, ◌++◌, length, take, drop, Option, Some, None, Result, Ok, Err, IfOk, refl, sym, subst, ap, ◌∙◌, arith, length-drop, length-take, append_assoc}
+use Rattle.std.proofs.Common.{◌≡◌, ℕ, zero, suc, ◌+◌, ◌*◌, ◌/◌, ◌<◌, ◌≤◌, Bool, true, false, cond, nat_lt, ◌&&◌, ◌||◌, ◌==◌, ◌⊎◌, inl, inr, List, [], ◌∷◌, ◌++◌, length, take, drop, Option, Some, None, Result, Ok, Err, IfOk, refl, sym, subst, ap, ◌∙◌, arith, length-drop, length-take}
 use Rattle.std.proofs.lemmas.List.{take-append-drop}
 use Rattle.std.proofs.lemmas.Bool.{lt-ltb, eq-eqb}
 use Rattle.tla_ast.specs.declared.place.Place.{Place}
 use Rattle.tla_ast.specs.declared.token.Token.{Token}
 use Rattle.tla_ast.specs.declared.token.Tokens.{Tokens}
-use Rattle.tla_ast.specs.declared.token.Tok.{Tok}
-use Rattle.tla_ast.specs.declared.token.Tok.TheVariants as tok
-use Rattle.tla_ast.specs.declared.fault.Kind.TheVariants.{TooLong, NoModule}
+use Rattle.tla_ast.specs.declared.fault.Kind.TheVariants.{TooLong}
 use Rattle.tla_ast.specs.declared.fault.LexFault.{LexFault}
 use Rattle.tla_ast.specs.declared.fault.LexFault.TheVariants as fault
 use Rattle.tla_ast.specs.Place.{before}
@@ -21,7 +19,7 @@ use Rattle.tla_lexer.specs.Place.{moved, after, first}
 use Rattle.tla_lexer.specs.Pieces.{piece_at}
 use Rattle.tla_lexer.specs.Headers.{find}
 use Rattle.tla_lexer.specs.Tokens.{Listed, with_front, token, tokens_from, headed, tokens_of, tokens_by, tokens, Gives}
-use Rattle.tla_lexer.specs.Law.{IsGap, Spells, Laid, gap, one, end, eof, TokensLie}
+use Rattle.tla_lexer.specs.Law.{Laid, gap, one, end, eof, TokensLie}
 use Rattle.tla_lexer.proofs.Tokens.{from-gap, from-token, from-end, from-fault}
 use Rattle.tla_lexer.proofs.Fits.{Fits, fits, end-spelled}
 
@@ -165,7 +163,7 @@ tokens-lie bytes ts e = go (nat_lt 1048576 (length bytes)) (find bytes) refl e
   where
     go : (b : Bool) (o : Option Found) → find bytes ≡ o → cond b (Err (fault.At first TooLong)) (tokens_by bytes o) ≡ Ok ts
         → (f : Found) × (find bytes ≡ Some f) × (ts.name ≡ f.header.name) × (ts.header ≡ after first (take f.at bytes))
-          × Laid (after ts.header (take f.header.length (drop f.at bytes))) (drop (f.at + f.header.length) bytes) ts.list × IsTokenList ts.list
+        × Laid (after ts.header (take f.header.length (drop f.at bytes))) (drop (f.at + f.header.length) bytes) ts.list × IsTokenList ts.list
     go true o h e = absurd (subst Whole (sym e) tt)
     go false None h e = absurd (subst Whole (sym e) tt)
     go false (Some f) h e =

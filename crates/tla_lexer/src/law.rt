@@ -6,5 +6,4 @@ ghost use Rattle.tla_lexer.specs.Law.{TokensLie};
 /// end token, in order. The places rise by line and then column, and the last token and no other is `End` or `Eof`.
 pub fn tokens_lie_in_the_text()
     ensures { TokensLie }
-{
-}
+{}

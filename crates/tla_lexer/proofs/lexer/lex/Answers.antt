@@ -1,5 +1,5 @@
-use Rattle.std.proofs.Common.{◌≡◌, ◌∙◌, ap, sym, subst, arith}
-use Rattle.tla_lexer.specs.Tokens.{Gives, tokens, tokens_by}
+use Rattle.std.proofs.Common.{◌∙◌, ap, sym, subst}
+use Rattle.tla_lexer.specs.Tokens.{Gives, tokens_by}
 use Rattle.tla_lexer.proofs.Tokens.{too-long, by-header}
 use Rattle.tla_lexer.proofs.Laid.{list-of}
 use Rattle.tla_lexer.proofs.lexer.lex.Goals as goal
