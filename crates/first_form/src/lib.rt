@@ -1,8 +1,8 @@
 //! The one form of a module's text that is read so far.
 //!
 //! To the layer above this crate promises a reader of that form: [`read`] answers the form exactly where the bytes are a
-//! text of it, and a text is of the form in at most one way. Names are the identifiers of
-//! `tla_ast`.
+//! text of it, and a text is of the form in at most one way. Names are the
+//! identifiers of `tla_ast`.
 #![tactic(auto)]
 
 mod form;
