@@ -12,6 +12,10 @@ use Rattle.propositional_search.specs.declared.node.Node.TheVariants.{True, Fals
 abbrev pub symbol_ : ℕ → Tree
 symbol_ n = app (record { kind = Canon; number = n; arity = 0 }) end
 
+-- the conjunction with a symbol
+abbrev pub and_symbol : Tree → ℕ → Tree
+and_symbol t n = and_ t (symbol_ n)
+
 -- the tree at a place of a list
 abbrev pub tree_of : List Tree → ℕ → Tree
 tree_of ts i = get_or ts i true_

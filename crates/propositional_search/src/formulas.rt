@@ -1,6 +1,6 @@
-ghost use Rattle.std.specs.Prelude.{◌≡◌, ◌<◌, ◌≤◌, [], length, IfOk, OnErr};
+ghost use Rattle.std.specs.Prelude.{◌≡◌, ◌<◌, ◌≤◌, [], length, fold, IfOk, OnErr};
 ghost use Rattle.core_expr.specs.Tree.{true_, false_, not_, and_, or_, imp_, iff_};
-ghost use Rattle.propositional_search.specs.Nodes.{Below, Keeps, Extends, Grows, IsArena, tree_at, tree_in, trees_of, symbol_};
+ghost use Rattle.propositional_search.specs.Nodes.{Below, Keeps, Extends, Grows, IsArena, tree_at, tree_in, trees_of, symbol_, and_symbol};
 ghost use Rattle.propositional_search.specs.Ready.{IsReady, IsPrepared};
 
 use crate::node::Node;
@@ -146,6 +146,21 @@ impl Formulas {
         ensures tree { IfOk result (λ i. tree_at self.new i ≡ (iff_ (tree_at self.old left) (tree_at self.old right))) }
     {
         Ok(self.intern(Node::Iff(left, right))?)
+    }
+
+    /// The place of the conjunction of the symbols with these numbers, nested to the left.
+    pub fn conjunction_of_symbols(&mut self, first: u64, later: &[u64]) -> Result<usize, Memory>
+        ensures longer { length self.old ≤ length self.new }
+        ensures keeps { Keeps self.old self.new }
+        ensures within { IfOk result (λ i. i < length self.new) }
+        ensures tree { IfOk result (λ i. tree_at self.new i ≡ fold and_symbol (symbol_ first) later.now) }
+    {
+        let mut place = self.symbol(first)?;
+        for number in later {
+            let symbol = self.symbol(*number)?;
+            place = self.and(place, symbol)?;
+        }
+        Ok(place)
     }
 }
 
