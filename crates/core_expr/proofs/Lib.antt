@@ -6,3 +6,4 @@ pub mod SpanLaws
 pub mod BuildLaws
 pub mod PlaceLaws
 pub mod Fed
+pub mod RenameLaws

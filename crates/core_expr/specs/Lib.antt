@@ -11,3 +11,4 @@ pub mod Places
 pub mod Equality
 pub mod Coding
 pub mod Keys
+pub mod Rename
