@@ -3,7 +3,7 @@ use Rattle.std.proofs.Common.{◌≡◌, ℕ, zero, suc, ◌+◌, ◌-◌, ◌<�
 use Rattle.std.proofs.Math.Seq.{get_or-append_seam, drop-append_seam, take-append_seam}
 use Rattle.std.proofs.lemmas.Grind.{take_at_read}
 use Rattle.std.proofs.lemmas.Bool.Decides.{nat_tests}
-use Rattle.std.proofs.lemmas.Bool.{and_parts, and_from, cases_lt, eqb-true}
+use Rattle.std.proofs.lemmas.Bool.{and_parts, and_from, cases_lt, eqb-true, false_from_ne_true}
 use Rattle.core_expr.specs.declared.head.Sym.{Sym}
 use Rattle.core_expr.specs.declared.head.Head.TheVariants.{True}
 use Rattle.core_expr.specs.declared.row.Row.{Row}
@@ -18,6 +18,7 @@ use Rattle.core_expr.specs.Heads.{table_numbers, first, is_empty, is_only, is_we
 use Rattle.core_expr.specs.Flat.{row, rows_at, rows_of, all_rows, tree_of}
 use Rattle.core_expr.specs.Rows.{raised_row, is_loose_row}
 use Rattle.core_expr.specs.Coding.{tree_of-rows_of}
+use Rattle.core_expr.specs.Equal.{sym-same}
 use Rattle.core_expr.specs.Rename.{named, all_formed, body_for, is_free_row, lifted_row, lifted, begin, between, argument_rows, filled_row, filled, is_variable, root_symbol, applied_symbol, put_nodes, next_nodes, next_starts, renamed}
 use Rattle.core_expr.proofs.Laws.{size-shifts, size-puts, size-subs}
 use Rattle.core_expr.proofs.Formed.{formed-put}
@@ -361,3 +362,95 @@ mutual
       in
       rw (append_assoc (rows_at d e) (all_rows d ps) qs, renamed-rows_at s d e (all_rows d ps ++ qs) out starts)
       (renamed-all_rows s d ps qs (out ++ rows_at d (sub s e)) (starts ++ length out ∷ []) ∙ (λ i. renamed s qs (rows i) (places i)))
+
+-- the nodes that substitution gives
+pub renamed_rows : (s : Sym → Option Tree) (e : Tree) (rs out : List Row) → rs ≡ rows_of e → out ≡ renamed s rs [] [] → out ≡ rows_of (sub s e)
+renamed_rows s e rs out p q = q ∙ ap (λ (l : List Row). renamed s l [] []) (p ∙ sym (append-nil (rows_of e))) ∙ renamed-rows_at s 0 e [] [] []
+
+formed_body : (o : Option Tree) (f : Sym) (n : ℕ) (ps : Parts) → ((b : Tree) → o ≡ Some b → is_well_formed b ≡ true) → n ≡ size ps → nat_eq n f.arity ≡ true → are_well_formed ps ≡ true → is_well_formed (apply_body o f ps) ≡ true
+formed_body None f n ps h q k w = and_from _ _ (ap (λ m. nat_eq m f.arity) (sym q) ∙ k) w
+formed_body (Some b) f n ps h q k w = formed-put 0 ps b w (h b refl)
+
+mutual
+  pub formed-sub : (s : Sym → Option Tree) → ((f : Sym) (b : Tree) → s f ≡ Some b → is_well_formed b ≡ true) → (e : Tree) → is_well_formed e ≡ true → is_well_formed (sub s e) ≡ true
+  formed-sub s h (bound i) k = refl
+  formed-sub s h (app f ps) k =
+      let q = and_parts (nat_eq (size ps) f.arity) (are_well_formed ps) k in formed_body (s f) f (size ps) (subs s ps) (h f) (sym (size-subs s ps)) q.0 (formed-subs s h ps q.1)
+  formed-sub s h (node f ns ps) k =
+      let q = and_parts _ (are_well_formed ps) k in rw (size-subs s ps) (and_from _ _ q.0 (formed-subs s h ps q.1))
+  formed-sub s h (bind b ps e) k =
+      let q = and_parts _ (are_well_formed ps && is_well_formed e) k in
+      let r = and_parts (are_well_formed ps) (is_well_formed e) q.1 in
+      rw (size-subs s ps) (and_from _ _ q.0 (and_from _ _ (formed-subs s h ps r.0) (formed-sub s h e r.1)))
+
+  pub formed-subs : (s : Sym → Option Tree) → ((f : Sym) (b : Tree) → s f ≡ Some b → is_well_formed b ≡ true) → (ps : Parts) → are_well_formed ps ≡ true → are_well_formed (subs s ps) ≡ true
+  formed-subs s h end k = refl
+  formed-subs s h (part e ps) k = let q = and_parts (is_well_formed e) (are_well_formed ps) k in and_from _ _ (formed-sub s h e q.0) (formed-subs s h ps q.1)
+
+pub formed-named : (by : List (Sym × Tree)) → all_formed by ≡ true → (f : Sym) (b : Tree) → named by f ≡ Some b → is_well_formed b ≡ true
+formed-named [] h f b e = absurd (cc)
+formed-named (p ∷ by) h f b e = go (formed-named by (and_parts (is_well_formed p.1) (all_formed by) h).1 f b) (same_sym p.0 f) e
+  where
+    go : (named by f ≡ Some b → is_well_formed b ≡ true) → (x : Bool) → elim x [ true ↦ Some p.1 | false ↦ named by f ] ≡ Some b → is_well_formed b ≡ true
+    go ih true e = let q : p.1 ≡ b = cc in ap is_well_formed (sym q) ∙ (and_parts (is_well_formed p.1) (all_formed by) h).0
+    go ih false e = ih e
+
+all_formed-append : (bs cs : List (Sym × Tree)) → all_formed (bs ++ cs) ≡ (all_formed bs && all_formed cs)
+all_formed-append [] cs = refl
+all_formed-append (p ∷ bs) cs = ap (λ x. is_well_formed p.1 && x) (all_formed-append bs cs) ∙ and_assoc (is_well_formed p.1) (all_formed bs) (all_formed cs)
+  where
+    and_assoc : (a b c : Bool) → (a && (b && c)) ≡ ((a && b) && c)
+    and_assoc true b c = refl
+    and_assoc false b c = refl
+
+pub formed_pair : (bs : List (Sym × Tree)) (i : ℕ) (p : Sym × Tree) → i < length bs → p ≡ get_or bs i p → all_formed (take i bs) ≡ true → is_well_formed p.1 ≡ true → all_formed (take (i + 1) bs) ≡ true
+formed_pair bs i p h e w k =
+    let t : take (i + 1) bs ≡ take i bs ++ p ∷ [] = (take_at_read bs i p h).1 ∙ ap (λ (x : Sym × Tree). take i bs ++ x ∷ []) (sym e) in
+    rw (t, all_formed-append (take i bs) (p ∷ [])) (and_from _ _ w (and_from _ _ k refl))
+
+-- steps of the loops
+read : {A : Type 0} (xs : List A) (i : ℕ) (x : A) → i < length xs → x ≡ get_or xs i x → drop i xs ≡ x ∷ drop (i + 1) xs
+read xs i x h e = ?
+
+pub lift_step : (k d : ℕ) (rs : List Row) (i : ℕ) (r q : Row) (old new start : List Row) → i < length rs → r ≡ get_or rs i r → old ≡ start ++ lifted k d (take i rs) → q ≡ lifted_row k d r → new ≡ old ++ q ∷ [] → new ≡ start ++ lifted k d (take (i + 1) rs)
+lift_step k d rs i r q old new start h e o m w =
+    let t : take (i + 1) rs ≡ take i rs ++ r ∷ [] = (take_at_read rs i r h).1 ∙ ap (λ (x : Row). take i rs ++ x ∷ []) (sym e) in
+    rw (t, lifted-append k d (take i rs) (r ∷ []), ← append_assoc, ← o, ← m) w
+
+pub fill_step : (out : List Row) (starts : List ℕ) (r : Row) (bs : List Row) (i : ℕ) (b : Row) (old new : List Row) → i < length bs → b ≡ get_or bs i b → old ≡ filled out starts r (take i bs) → new ≡ old ++ filled_row out starts r b → new ≡ filled out starts r (take (i + 1) bs)
+fill_step out starts r bs i b old new h e o w =
+    let t : take (i + 1) bs ≡ take i bs ++ b ∷ [] = (take_at_read bs i b h).1 ∙ ap (λ (x : Row). take i bs ++ x ∷ []) (sym e) in
+    rw (t, filled-append out starts r (take i bs) (b ∷ []), append-nil (filled_row out starts r b), ← o) w
+
+pub rename_step : (s : Sym → Option Tree) (rs : List Row) (i : ℕ) (r : Row) (old new : List Row) (starts places : List ℕ) (z : List Row) → i < length rs → r ≡ get_or rs i r → renamed s (drop i rs) old starts ≡ z → new ≡ next_nodes s r old starts → places ≡ next_starts r starts (length old) → renamed s (drop (i + 1) rs) new places ≡ z
+rename_step s rs i r old new starts places z h e o p q =
+    (λ j. renamed s (drop (i + 1) rs) (p j) (q j)) ∙ ap (λ (l : List Row). renamed s l old starts) (sym (read rs i r h e)) ∙ o
+
+pub applied_last : (n : ℕ) (rs : List Row) (i : ℕ) (r : Row) → i < length rs → r ≡ get_or rs i r → i + 1 ≡ length rs → root_symbol n r.kind r ≡ applied_symbol n 0 (drop i rs)
+applied_last n rs i r h e l = ?
+
+pub applied_more : (n : ℕ) (rs : List Row) (i : ℕ) (r : Row) → i + 1 < length rs → r ≡ get_or rs i r → applied_symbol n 0 (drop i rs) ≡ None
+applied_more n rs i r h e = ?
+
+pub applied_step : (n m k : ℕ) (rs : List Row) (i : ℕ) (r : Row) (z : Option Sym) → i < length rs → r ≡ get_or rs i r → applied_symbol n k (drop i rs) ≡ z → k ≡ suc m → is_variable m r.kind r ≡ true → applied_symbol n m (drop (i + 1) rs) ≡ z
+applied_step n m k rs i r z h e o q v =
+    ap (λ (b : Bool). elim b [ true ↦ applied_symbol n m (drop (i + 1) rs) | false ↦ None ]) (sym v) ∙ sym (λ j. applied_symbol n (q j) (read rs i r h e j)) ∙ o
+
+pub applied_stop : (n m k : ℕ) (rs : List Row) (i : ℕ) (r : Row) (z : Option Sym) → i < length rs → r ≡ get_or rs i r → applied_symbol n k (drop i rs) ≡ z → k ≡ suc m → is_variable m r.kind r ≡ false → None ≡ z
+applied_stop n m k rs i r z h e o q v =
+    ap (λ (b : Bool). elim b [ true ↦ applied_symbol n m (drop (i + 1) rs) | false ↦ None ]) (sym v) ∙ sym (λ j. applied_symbol n (q j) (read rs i r h e j)) ∙ o
+
+pub applied_none : (n i : ℕ) → applied_symbol n i [] ≡ None
+applied_none n zero = refl
+applied_none n (suc i) = refl
+
+pub sym-refl : (f : Sym) → same_sym f f ≡ true
+sym-refl f = ?
+
+pub named_here : (bs : List (Sym × Tree)) (i : ℕ) (p : Sym × Tree) (f : Sym) (z : Option Tree) → i < length bs → p ≡ get_or bs i p → named (drop i bs) f ≡ z → p.0 ≡ f → z ≡ Some p.1
+named_here bs i p f z h e o q =
+    sym o ∙ ap (λ (l : List (Sym × Tree)). named l f) (read bs i p h e) ∙ ap (λ (b : Bool). elim b [ true ↦ Some p.1 | false ↦ named (drop (i + 1) bs) f ]) (ap (λ g. same_sym g f) q ∙ sym-refl f)
+
+pub named_past : (bs : List (Sym × Tree)) (i : ℕ) (p : Sym × Tree) (f : Sym) (z : Option Tree) → i < length bs → p ≡ get_or bs i p → named (drop i bs) f ≡ z → (p.0 ≡ f → ⊥) → named (drop (i + 1) bs) f ≡ z
+named_past bs i p f z h e o q =
+    ap (λ (b : Bool). elim b [ true ↦ Some p.1 | false ↦ named (drop (i + 1) bs) f ]) (sym (false_from_ne_true (same_sym p.0 f) (λ t. q (sym-same p.0 f t)))) ∙ ap (λ (l : List (Sym × Tree)). named l f) (sym (read bs i p h e)) ∙ o
