@@ -1,9 +1,9 @@
 -- Laws of substitution for symbols on the nodes of an expression.
 use Rattle.std.proofs.Common.{◌≡◌, ℕ, zero, suc, ◌+◌, ◌-◌, ◌<◌, ◌≤◌, List, [], ◌∷◌, ◌++◌, length, get_or, Bool, true, false, ◌&&◌, cond, nat_lt, nat_le, nat_eq, Option, Some, None, inl, inr, refl, ap, sym, ◌∙◌, arith, append_assoc, append-nil, length-append, take, drop}
-use Rattle.std.proofs.Math.Seq.{get_or-append_seam, drop-append_seam, take-append_seam}
+use Rattle.std.proofs.Math.Seq.{get_or-append_seam, drop-append_seam, take-append_seam, drop-cons}
 use Rattle.std.proofs.lemmas.Grind.{take_at_read}
 use Rattle.std.proofs.lemmas.Bool.Decides.{nat_tests}
-use Rattle.std.proofs.lemmas.Bool.{and_parts, and_from, cases_lt, eqb-true, false_from_ne_true}
+use Rattle.std.proofs.lemmas.Bool.{and_parts, and_from, cases_lt, eqb-true}
 use Rattle.core_expr.specs.declared.head.Sym.{Sym}
 use Rattle.core_expr.specs.declared.head.Head.TheVariants.{True}
 use Rattle.core_expr.specs.declared.row.Row.{Row}
@@ -18,7 +18,6 @@ use Rattle.core_expr.specs.Heads.{table_numbers, first, is_empty, is_only, is_we
 use Rattle.core_expr.specs.Flat.{row, rows_at, rows_of, all_rows, tree_of}
 use Rattle.core_expr.specs.Rows.{raised_row, is_loose_row}
 use Rattle.core_expr.specs.Coding.{tree_of-rows_of}
-use Rattle.core_expr.specs.Equal.{sym-same}
 use Rattle.core_expr.specs.Rename.{named, all_formed, body_for, is_free_row, lifted_row, lifted, begin, between, argument_rows, filled_row, filled, is_variable, root_symbol, applied_symbol, put_nodes, next_nodes, next_starts, renamed}
 use Rattle.core_expr.proofs.Laws.{size-shifts, size-puts, size-subs}
 use Rattle.core_expr.proofs.Formed.{formed-put}
@@ -32,15 +31,15 @@ lifted-append k d (r ∷ rs) qs = ap (λ (l : List Row). lifted_row k d r ∷ l)
 lifted_bound : (k d c i x y : ℕ) → x ≡ d + c → y ≡ x + k → lifted_row k d (row Bound (i ∷ []) 0 x) ≡ row Bound (cond (nat_lt i c) i (i + k) ∷ []) 0 y
 lifted_bound k d c i x y p q =
     let z : x - d ≡ c = omega arith in
-    elim (cases_lt i c)
-    [ inl l ↦
-        let a : nat_lt i c ≡ true = grind (arith, nat_tests) in
-        let b : nat_le (x - d) i ≡ false = grind (arith, nat_tests) in
-        rw (a, b, q)
-    | inr l ↦
-        let a : nat_lt i c ≡ false = grind (arith, nat_tests) in
-        let b : nat_le (x - d) i ≡ true = grind (arith, nat_tests) in
-        rw (a, b, q)
+    elim (cases_lt i c) [
+      | inl l ↦
+          let a : nat_lt i c ≡ true = grind (arith, nat_tests) in
+          let b : nat_le (x - d) i ≡ false = grind (arith, nat_tests) in
+          rw (a, b, q)
+      | inr l ↦
+          let a : nat_lt i c ≡ false = grind (arith, nat_tests) in
+          let b : nat_le (x - d) i ≡ true = grind (arith, nat_tests) in
+          rw (a, b, q)
     ]
 
 mutual
@@ -64,15 +63,15 @@ filled-append out starts r (b ∷ rs) qs = rw (append_assoc, filled-append out s
 
 filled_bound : (out : List Row) (starts : List ℕ) (r : Row) (ts : Parts) → ((j : ℕ) → argument_rows out starts r j ≡ rows_at r.depth (argument ts j)) → (k y i : ℕ) → y ≡ k + r.depth → filled_row out starts r (row Bound (i ∷ []) 0 k) ≡ rows_at y (put k ts (bound i))
 filled_bound out starts r ts h k y i q =
-    elim (cases_lt i k)
-    [ inl l ↦
-        let a : nat_lt i k ≡ true = grind (arith, nat_tests) in
-        let b : nat_le k i ≡ false = grind (arith, nat_tests) in
-        rw (a, b, q)
-    | inr l ↦
-        let a : nat_lt i k ≡ false = grind (arith, nat_tests) in
-        let b : nat_le k i ≡ true = grind (arith, nat_tests) in
-        rw (a, b, h (i - k)) (lifted-rows_at k r.depth 0 r.depth y (argument ts (i - k)) (omega arith) (omega arith))
+    elim (cases_lt i k) [
+      | inl l ↦
+          let a : nat_lt i k ≡ true = grind (arith, nat_tests) in
+          let b : nat_le k i ≡ false = grind (arith, nat_tests) in
+          rw (a, b, q)
+      | inr l ↦
+          let a : nat_lt i k ≡ false = grind (arith, nat_tests) in
+          let b : nat_le k i ≡ true = grind (arith, nat_tests) in
+          rw (a, b, h (i - k)) (lifted-rows_at k r.depth 0 r.depth y (argument ts (i - k)) (omega arith) (omega arith))
     ]
 
 mutual
@@ -146,26 +145,26 @@ argument_between : (d : ℕ) (out : List Row) (starts : List ℕ) (ts : Parts) (
 unfolding offsets
 argument_between d out starts end j h = absurd (omega arith)
 argument_between d out starts (part e ts) j h =
-    elim (cases_lt j (size ts))
-    [ inl l ↦
-        let n : nat_eq j (size ts) ≡ false = grind (arith, nat_tests) in
-        let rows : out ++ (rows_at d e ++ all_rows d ts) ≡ (out ++ rows_at d e) ++ all_rows d ts = sym (append_assoc out (rows_at d e) (all_rows d ts)) in
-        let places : starts ++ length out ∷ offsets d (out ++ rows_at d e) ts ≡ (starts ++ length out ∷ []) ++ offsets d (out ++ rows_at d e) ts =
-        sym (append_assoc starts (length out ∷ []) (offsets d (out ++ rows_at d e) ts))
-        in
-        (λ i. between (begin (suc j) (places i) (length (rows i))) (begin j (places i) (length (rows i))) (rows i))
-        ∙ argument_between d (out ++ rows_at d e) (starts ++ length out ∷ []) ts j l
-        ∙ ap (rows_at d) (ap (λ (b : Bool). cond b e (argument ts j)) (sym n))
-    | inr l ↦
-        let n : nat_eq j (size ts) ≡ true = grind (arith, nat_tests) in
-        argument_here d out starts e ts j (omega arith) ∙ ap (rows_at d) (ap (λ (b : Bool). cond b e (argument ts j)) (sym n))
+    elim (cases_lt j (size ts)) [
+      | inl l ↦
+          let n : nat_eq j (size ts) ≡ false = grind (arith, nat_tests) in
+          let rows : out ++ (rows_at d e ++ all_rows d ts) ≡ (out ++ rows_at d e) ++ all_rows d ts = sym (append_assoc out (rows_at d e) (all_rows d ts)) in
+          let places : starts ++ length out ∷ offsets d (out ++ rows_at d e) ts ≡ (starts ++ length out ∷ []) ++ offsets d (out ++ rows_at d e) ts =
+          sym (append_assoc starts (length out ∷ []) (offsets d (out ++ rows_at d e) ts))
+          in
+          (λ i. between (begin (suc j) (places i) (length (rows i))) (begin j (places i) (length (rows i))) (rows i))
+          ∙ argument_between d (out ++ rows_at d e) (starts ++ length out ∷ []) ts j l
+          ∙ ap (rows_at d) (ap (λ (b : Bool). cond b e (argument ts j)) (sym n))
+      | inr l ↦
+          let n : nat_eq j (size ts) ≡ true = grind (arith, nat_tests) in
+          argument_here d out starts e ts j (omega arith) ∙ ap (rows_at d) (ap (λ (b : Bool). cond b e (argument ts j)) (sym n))
     ]
 
 arguments_are : (d n : ℕ) (f : Sym) (out : List Row) (starts : List ℕ) (ts : Parts) → n ≡ size ts → (j : ℕ) → argument_rows (out ++ all_rows d ts) (starts ++ offsets d out ts) (row (Symbol f) [] n d) j ≡ rows_at d (argument ts j)
 arguments_are d n f out starts ts q j =
-    elim (cases_lt j n)
-    [ inl l ↦ let a : nat_lt j n ≡ true = grind (arith, nat_tests) in rw a (argument_between d out starts ts j (omega arith))
-    | inr l ↦ let a : nat_lt j n ≡ false = grind (arith, nat_tests) in rw (a, argument_past ts j (omega arith))
+    elim (cases_lt j n) [
+      | inl l ↦ let a : nat_lt j n ≡ true = grind (arith, nat_tests) in rw a (argument_between d out starts ts j (omega arith))
+      | inr l ↦ let a : nat_lt j n ≡ false = grind (arith, nat_tests) in rw (a, argument_past ts j (omega arith))
     ]
 
 -- a symbol applied to the variables in order
@@ -302,7 +301,7 @@ put_is d n f b ps out starts q = go (applied_symbol n n (rows_of b)) refl
     go None e =
         rw begin_is
         (λ i.
-          take-append_seam out (all_rows d ps) i ++ filled-rows_at (out ++ all_rows d ps) (starts ++ offsets d out ps) (row (Symbol f) [] n d) ps (arguments_are d n f out starts ps q) 0 d b (omega arith) i)
+        take-append_seam out (all_rows d ps) i ++ filled-rows_at (out ++ all_rows d ps) (starts ++ offsets d out ps) (row (Symbol f) [] n d) ps (arguments_are d n f out starts ps q) 0 d b (omega arith) i)
 
 close_node : (s : Sym → Option Tree) (r : Row) (qs new old : List Row) (starts places : List ℕ) → next_nodes s r old places ≡ new → next_starts r places (length old) ≡ starts → renamed s (r ∷ qs) old places ≡ renamed s qs new starts
 close_node s r qs new old starts places p q = λ i. renamed s qs (p i) (q i)
@@ -331,6 +330,7 @@ bind_starts d r out starts (part t ps) e q =
 
 mutual
   unfolding offsets
+
   renamed-rows_at : (s : Sym → Option Tree) (d : ℕ) (t : Tree) (qs out : List Row) (starts : List ℕ) → renamed s (rows_at d t ++ qs) out starts ≡ renamed s qs (out ++ rows_at d (sub s t)) (starts ++ length out ∷ [])
   renamed-rows_at s d (bound i) qs out starts =
       close_node s (row Bound (i ∷ []) 0 d) qs (out ++ row Bound (i ∷ []) 0 d ∷ []) out (starts ++ length out ∷ []) starts refl
@@ -338,20 +338,20 @@ mutual
   renamed-rows_at s d (app f ps) qs out starts =
       rw (append_assoc (all_rows d ps) (row (Symbol f) [] (size ps) d ∷ []) qs, renamed-all_rows s d ps (row (Symbol f) [] (size ps) d ∷ qs) out starts)
       (close_node s (row (Symbol f) [] (size ps) d) qs (out ++ rows_at d (apply_body (s f) f (subs s ps))) (out ++ all_rows d (subs s ps)) (starts ++ length out ∷ []) (starts ++ offsets d out (subs s ps))
-        (app_nodes (s f) d (size ps) f (subs s ps) out starts (sym (size-subs s ps)))
-        (node_starts d (row (Symbol f) [] (size ps) d) out starts (subs s ps) (sym (size-subs s ps))))
+      (app_nodes (s f) d (size ps) f (subs s ps) out starts (sym (size-subs s ps)))
+      (node_starts d (row (Symbol f) [] (size ps) d) out starts (subs s ps) (sym (size-subs s ps))))
   renamed-rows_at s d (node h ns ps) qs out starts =
       rw (append_assoc (all_rows d ps) (row (Plain h) (table_numbers h ns (size ps)) (size ps) d ∷ []) qs, renamed-all_rows s d ps (row (Plain h) (table_numbers h ns (size ps)) (size ps) d ∷ qs) out starts)
       (close_node s (row (Plain h) (table_numbers h ns (size ps)) (size ps) d) qs (out ++ rows_at d (node h ns (subs s ps))) (out ++ all_rows d (subs s ps)) (starts ++ length out ∷ []) (starts ++ offsets d out (subs s ps))
-        (append_assoc out (all_rows d (subs s ps)) (row (Plain h) (table_numbers h ns (size ps)) (size ps) d ∷ []) ∙ ap (λ m. out ++ (all_rows d (subs s ps) ++ row (Plain h) (table_numbers h ns m) m d ∷ [])) (sym (size-subs s ps)))
-        (node_starts d (row (Plain h) (table_numbers h ns (size ps)) (size ps) d) out starts (subs s ps) (sym (size-subs s ps))))
+      (append_assoc out (all_rows d (subs s ps)) (row (Plain h) (table_numbers h ns (size ps)) (size ps) d ∷ []) ∙ ap (λ m. out ++ (all_rows d (subs s ps) ++ row (Plain h) (table_numbers h ns m) m d ∷ [])) (sym (size-subs s ps)))
+      (node_starts d (row (Plain h) (table_numbers h ns (size ps)) (size ps) d) out starts (subs s ps) (sym (size-subs s ps))))
   renamed-rows_at s d (bind b ps e) qs out starts =
       rw (append_assoc (all_rows d ps) (rows_at (suc d) e ++ row (Binding b) [] (suc (size ps)) d ∷ []) qs, renamed-all_rows s d ps ((rows_at (suc d) e ++ row (Binding b) [] (suc (size ps)) d ∷ []) ++ qs) out starts, append_assoc (rows_at (suc d) e) (row (Binding b) [] (suc (size ps)) d ∷ []) qs, renamed-rows_at s (suc d) e (row (Binding b) [] (suc (size ps)) d ∷ qs) (out ++ all_rows d (subs s ps)) (starts ++ offsets d out (subs s ps)))
       (close_node s (row (Binding b) [] (suc (size ps)) d) qs (out ++ rows_at d (bind b (subs s ps) (sub s e))) ((out ++ all_rows d (subs s ps)) ++ rows_at (suc d) (sub s e)) (starts ++ length out ∷ []) ((starts ++ offsets d out (subs s ps)) ++ length (out ++ all_rows d (subs s ps)) ∷ [])
-        (append_assoc (out ++ all_rows d (subs s ps)) (rows_at (suc d) (sub s e)) (row (Binding b) [] (suc (size ps)) d ∷ [])
-          ∙ append_assoc out (all_rows d (subs s ps)) (rows_at (suc d) (sub s e) ++ row (Binding b) [] (suc (size ps)) d ∷ [])
-          ∙ ap (λ m. out ++ (all_rows d (subs s ps) ++ (rows_at (suc d) (sub s e) ++ row (Binding b) [] (suc m) d ∷ []))) (sym (size-subs s ps)))
-        (bind_starts d (row (Binding b) [] (suc (size ps)) d) out starts (subs s ps) (sub s e) (ap suc (sym (size-subs s ps)))))
+      (append_assoc (out ++ all_rows d (subs s ps)) (rows_at (suc d) (sub s e)) (row (Binding b) [] (suc (size ps)) d ∷ [])
+      ∙ append_assoc out (all_rows d (subs s ps)) (rows_at (suc d) (sub s e) ++ row (Binding b) [] (suc (size ps)) d ∷ [])
+      ∙ ap (λ m. out ++ (all_rows d (subs s ps) ++ (rows_at (suc d) (sub s e) ++ row (Binding b) [] (suc m) d ∷ []))) (sym (size-subs s ps)))
+      (bind_starts d (row (Binding b) [] (suc (size ps)) d) out starts (subs s ps) (sub s e) (ap suc (sym (size-subs s ps)))))
 
   renamed-all_rows : (s : Sym → Option Tree) (d : ℕ) (ps : Parts) (qs out : List Row) (starts : List ℕ) → renamed s (all_rows d ps ++ qs) out starts ≡ renamed s qs (out ++ all_rows d (subs s ps)) (starts ++ offsets d out (subs s ps))
   renamed-all_rows s d end qs out starts = let p = sym (append-nil out) in let q = sym (append-nil starts) in λ i. renamed s qs (p i) (q i)
@@ -409,8 +409,8 @@ formed_pair bs i p h e w k =
     rw (t, all_formed-append (take i bs) (p ∷ [])) (and_from _ _ w (and_from _ _ k refl))
 
 -- steps of the loops
-read : {A : Type 0} (xs : List A) (i : ℕ) (x : A) → i < length xs → x ≡ get_or xs i x → drop i xs ≡ x ∷ drop (i + 1) xs
-read xs i x h e = ?
+read : {A : Type 0} → (xs : List A) (i : ℕ) (x : A) → i < length xs → x ≡ get_or xs i x → drop i xs ≡ x ∷ drop (i + 1) xs
+read xs i x h e = drop-cons xs i x h ∙ (let q : suc i ≡ i + 1 = omega arith in let f : get_or xs i x ≡ x = sym e in λ j. f j ∷ drop (q j) xs)
 
 pub lift_step : (k d : ℕ) (rs : List Row) (i : ℕ) (r q : Row) (old new start : List Row) → i < length rs → r ≡ get_or rs i r → old ≡ start ++ lifted k d (take i rs) → q ≡ lifted_row k d r → new ≡ old ++ q ∷ [] → new ≡ start ++ lifted k d (take (i + 1) rs)
 lift_step k d rs i r q old new start h e o m w =
@@ -422,15 +422,22 @@ fill_step out starts r bs i b old new h e o w =
     let t : take (i + 1) bs ≡ take i bs ++ b ∷ [] = (take_at_read bs i b h).1 ∙ ap (λ (x : Row). take i bs ++ x ∷ []) (sym e) in
     rw (t, filled-append out starts r (take i bs) (b ∷ []), append-nil (filled_row out starts r b), ← o) w
 
-pub rename_step : (s : Sym → Option Tree) (rs : List Row) (i : ℕ) (r : Row) (old new : List Row) (starts places : List ℕ) (z : List Row) → i < length rs → r ≡ get_or rs i r → renamed s (drop i rs) old starts ≡ z → new ≡ next_nodes s r old starts → places ≡ next_starts r starts (length old) → renamed s (drop (i + 1) rs) new places ≡ z
-rename_step s rs i r old new starts places z h e o p q =
-    (λ j. renamed s (drop (i + 1) rs) (p j) (q j)) ∙ ap (λ (l : List Row). renamed s l old starts) (sym (read rs i r h e)) ∙ o
+drop_all : (rs : List Row) (i : ℕ) → i ≡ length rs → drop i rs ≡ []
+drop_all [] zero h = refl
+drop_all [] (suc i) h = absurd (omega arith)
+drop_all (r ∷ rs) zero h = absurd (omega arith)
+drop_all (r ∷ rs) (suc i) h = drop_all rs i (omega arith)
 
 pub applied_last : (n : ℕ) (rs : List Row) (i : ℕ) (r : Row) → i < length rs → r ≡ get_or rs i r → i + 1 ≡ length rs → root_symbol n r.kind r ≡ applied_symbol n 0 (drop i rs)
-applied_last n rs i r h e l = ?
+applied_last n rs i r h e l = sym (ap (applied_symbol n 0) (read rs i r h e ∙ ap (λ (l : List Row). r ∷ l) (drop_all rs (i + 1) l)))
 
-pub applied_more : (n : ℕ) (rs : List Row) (i : ℕ) (r : Row) → i + 1 < length rs → r ≡ get_or rs i r → applied_symbol n 0 (drop i rs) ≡ None
-applied_more n rs i r h e = ?
+pub applied_more : (n : ℕ) (rs : List Row) (i : ℕ) → i + 1 < length rs → applied_symbol n 0 (drop i rs) ≡ None
+applied_more n rs i h =
+    let r : Row = row Bound [] 0 0 in
+    let e : drop i rs ≡ get_or rs i r ∷ (get_or rs (i + 1) r ∷ drop (suc (i + 1)) rs) =
+    drop-cons rs i r (omega arith) ∙ (let q : suc i ≡ i + 1 = omega arith in ap (λ k. get_or rs i r ∷ drop k rs) q) ∙ ap (λ (l : List Row). get_or rs i r ∷ l) (drop-cons rs (i + 1) r h)
+    in
+    ap (applied_symbol n 0) e
 
 pub applied_step : (n m k : ℕ) (rs : List Row) (i : ℕ) (r : Row) (z : Option Sym) → i < length rs → r ≡ get_or rs i r → applied_symbol n k (drop i rs) ≡ z → k ≡ suc m → is_variable m r.kind r ≡ true → applied_symbol n m (drop (i + 1) rs) ≡ z
 applied_step n m k rs i r z h e o q v =
@@ -440,17 +447,9 @@ pub applied_stop : (n m k : ℕ) (rs : List Row) (i : ℕ) (r : Row) (z : Option
 applied_stop n m k rs i r z h e o q v =
     ap (λ (b : Bool). elim b [ true ↦ applied_symbol n m (drop (i + 1) rs) | false ↦ None ]) (sym v) ∙ sym (λ j. applied_symbol n (q j) (read rs i r h e j)) ∙ o
 
-pub applied_none : (n i : ℕ) → applied_symbol n i [] ≡ None
+applied_none : (n i : ℕ) → applied_symbol n i [] ≡ None
 applied_none n zero = refl
 applied_none n (suc i) = refl
 
-pub sym-refl : (f : Sym) → same_sym f f ≡ true
-sym-refl f = ?
-
-pub named_here : (bs : List (Sym × Tree)) (i : ℕ) (p : Sym × Tree) (f : Sym) (z : Option Tree) → i < length bs → p ≡ get_or bs i p → named (drop i bs) f ≡ z → p.0 ≡ f → z ≡ Some p.1
-named_here bs i p f z h e o q =
-    sym o ∙ ap (λ (l : List (Sym × Tree)). named l f) (read bs i p h e) ∙ ap (λ (b : Bool). elim b [ true ↦ Some p.1 | false ↦ named (drop (i + 1) bs) f ]) (ap (λ g. same_sym g f) q ∙ sym-refl f)
-
-pub named_past : (bs : List (Sym × Tree)) (i : ℕ) (p : Sym × Tree) (f : Sym) (z : Option Tree) → i < length bs → p ≡ get_or bs i p → named (drop i bs) f ≡ z → (p.0 ≡ f → ⊥) → named (drop (i + 1) bs) f ≡ z
-named_past bs i p f z h e o q =
-    ap (λ (b : Bool). elim b [ true ↦ Some p.1 | false ↦ named (drop (i + 1) bs) f ]) (sym (false_from_ne_true (same_sym p.0 f) (λ t. q (sym-same p.0 f t)))) ∙ ap (λ (l : List (Sym × Tree)). named l f) (sym (read bs i p h e)) ∙ o
+pub applied_end : (n k : ℕ) (rs : List Row) (i : ℕ) (z : Option Sym) → i ≡ length rs → applied_symbol n k (drop i rs) ≡ z → None ≡ z
+applied_end n k rs i z h o = sym (applied_none n k) ∙ ap (applied_symbol n k) (sym (drop_all rs i h)) ∙ o

@@ -85,9 +85,9 @@ applied_symbol n (suc i) (b ∷ bs) = elim (is_variable i b.kind b) [ true ↦ a
 -- the nodes so far and then those of what is put for the node r, whose parts are completed
 abbrev pub put_nodes : List Row → Row → List Row → List ℕ → List Row
 put_nodes bs r out starts =
-    elim (applied_symbol r.parts r.parts bs)
-    [ Some g ↦ out ++ row (Symbol g) [] r.parts r.depth ∷ []
-    | None ↦ take (begin r.parts starts (length out)) out ++ filled out starts r bs
+    elim (applied_symbol r.parts r.parts bs) [
+      | Some g ↦ out ++ row (Symbol g) [] r.parts r.depth ∷ []
+      | None ↦ take (begin r.parts starts (length out)) out ++ filled out starts r bs
     ]
 
 -- the nodes so far once the node is completed: each completed subtree is what its map gives

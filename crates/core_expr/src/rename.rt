@@ -56,13 +56,7 @@ fn lift_row(alloc: Global, row: &Row, by: u64, depth: u64) -> Result<Row, Memory
 }
 
 /// Puts the nodes of an expression whose root stands under `depth` binders, under `by` more, at the end of `out`.
-fn lift(
-    alloc: Global,
-    out: &mut Vec<Row>,
-    rows: &[Row],
-    by: u64,
-    depth: u64,
-) -> Result<(), Memory>
+fn lift(alloc: Global, out: &mut Vec<Row>, rows: &[Row], by: u64, depth: u64) -> Result<(), Memory>
     ensures { OnOk result (out.new.items ≡ out.old.items ++ lifted by depth rows.now) }
 {
     for row in rows {
@@ -335,6 +329,7 @@ impl Expr {
         ensures { IfOk result (λ e. e ≡ sub (named by.now) self.now) }
     {
         all_formed(by);
+        let _ = self.length();
         let rows = rename_rows(alloc, self.rows(), by)?;
         Expr::of_rows(alloc, Items::from_vec(rows))
     }
