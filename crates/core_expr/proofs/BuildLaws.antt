@@ -55,7 +55,7 @@ length-front [] h = absurd (omega arith)
 length-front (t ∷ []) h = refl
 length-front (t ∷ u ∷ ts) h = ap suc (length-front (u ∷ ts) (omega arith))
 
-no_numbers : (ns : List ℕ) → is_empty ns ≡ true → ns ≡ []
+pub no_numbers : (ns : List ℕ) → is_empty ns ≡ true → ns ≡ []
 no_numbers [] h = refl
 no_numbers (n ∷ ns) h = cc
 
@@ -64,7 +64,7 @@ only_number k [] h = cc
 only_number k (n ∷ ns) h =
     let p = and_parts (nat_eq n k) (is_empty ns) h in λ i. eqb-true n k p.0 i ∷ no_numbers ns p.1 i
 
-one_number : (ns : List ℕ) → length ns ≡ 1 → ns ≡ first ns ∷ []
+pub one_number : (ns : List ℕ) → length ns ≡ 1 → ns ≡ first ns ∷ []
 one_number [] h = absurd (omega arith)
 one_number (n ∷ []) h = refl
 one_number (n ∷ m ∷ ns) h = absurd (omega arith)

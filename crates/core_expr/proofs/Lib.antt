@@ -7,3 +7,4 @@ pub mod BuildLaws
 pub mod PlaceLaws
 pub mod Fed
 pub mod RenameLaws
+pub mod Shown

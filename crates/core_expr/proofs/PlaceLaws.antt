@@ -1,20 +1,21 @@
 -- Each node of an expression is the root of a subtree, whose nodes stand together.
-use Rattle.std.proofs.Common.{◌≡◌, ℕ, suc, ◌+◌, ◌-◌, ◌<◌, List, [], ◌∷◌, ◌++◌, length, get_or, take, drop, refl, ap, sym, ◌∙◌, arith, append_assoc, append-nil, length-append, inl, inr}
+use Rattle.std.proofs.Common.{◌≡◌, ℕ, zero, suc, ◌+◌, ◌-◌, ◌<◌, List, [], ◌∷◌, ◌++◌, length, get_or, take, drop, refl, ap, sym, ◌∙◌, arith, append_assoc, append-nil, length-append, inl, inr}
 use Rattle.std.proofs.Math.Seq.{get_or-append_seam, take-append_seam}
+use Rattle.std.proofs.Math.ListN.{get_or-append}
 use Rattle.std.proofs.lemmas.Bool.{cases_lt}
-use Rattle.std.proofs.lemmas.List.{take-append-drop, length-drop}
+use Rattle.std.proofs.lemmas.List.{take-append-drop, length-drop, take-append-le, take_all}
 use Rattle.core_expr.specs.declared.row.Row.{Row}
 use Rattle.core_expr.specs.declared.row.RowKind.TheVariants.{Bound, Symbol, Plain, Binding}
-use Rattle.core_expr.specs.Tree.{Tree, Parts, size}
+use Rattle.core_expr.specs.Tree.{Tree, Parts, size, true_}
 use Rattle.core_expr.specs.Tree.Tree.{bound, app, node, bind}
 use Rattle.core_expr.specs.Tree.Parts.{end, part}
 use Rattle.core_expr.specs.Terms.{nodes, nodes_of}
 use Rattle.core_expr.specs.Heads.{table_numbers, list_of, subtrees}
 use Rattle.core_expr.specs.Flat.{row, rows_at, rows_of, all_rows, complete, build, top, tree_of, row_at}
 use Rattle.core_expr.specs.Spans.{spans_of, all_spans, nodes_in, spans_in, back_over}
-use Rattle.core_expr.specs.Places.{subtree, kind_of, root_numbers, RootAt}
+use Rattle.core_expr.specs.Places.{subtree, kind_of, root_numbers, RootAt, part_index}
 use Rattle.core_expr.specs.Coding.{build-rows_at}
-use Rattle.core_expr.proofs.SpanLaws.{length-spans_of, length-all_spans, length-rows_at, length-all_rows, length-list_of, nodes-subtrees, spans-subtrees, spans_in-append, nodes_in-append, length-spans_in, over_trees}
+use Rattle.core_expr.proofs.SpanLaws.{length-spans_of, length-all_spans, length-rows_at, length-all_rows, length-list_of, nodes-subtrees, spans-subtrees, spans_in-append, nodes_in-append, nodes_in-list_of, length-spans_in, over_trees}
 
 -- the node i of these nodes, with these spans, is the root of a tree whose nodes and spans stand together
 pub record Place (rs : List Row) (ss : List ℕ) (i : ℕ) : Type 0 where
@@ -191,3 +192,104 @@ part_before t i k h l =
         let s = p.stands in
         let n = some_nodes k ts l in
         omega (arith, c, z, s, n)
+
+-- the nodes of part k stand together, after those of the parts before it
+record Child (rs : List Row) (ts : List Tree) (k : ℕ) : Type 0 where
+  before : List Row
+  after : List Row
+  depth : ℕ
+  rows_are : rs ≡ before ++ (rows_at depth (get_or ts k true_) ++ after)
+  stands : length before + nodes (get_or ts k true_) ≡ nodes_in (take (suc k) ts)
+
+child_in : (d : ℕ) (ps : Parts) (k : ℕ) → k < size ps → Child (all_rows d ps) (list_of ps) k
+child_in d end k h = absurd (omega arith)
+child_in d (part e ps) zero h = record { before = []; after = all_rows d ps; depth = d; rows_are = refl; stands = omega arith }
+child_in d (part e ps) (suc k) h =
+    let c = child_in d ps k (omega arith) in
+    let s = c.stands in
+    let l = length-append (rows_at d e) c.before in
+    let m = length-rows_at d e in
+    record {
+      before = rows_at d e ++ c.before;
+      after = c.after;
+      depth = c.depth;
+      rows_are = ap (λ l. rows_at d e ++ l) c.rows_are ∙ sym (append_assoc (rows_at d e) c.before (rows_at c.depth (get_or (list_of ps) k true_) ++ c.after));
+      stands = omega (arith, s, l, m);
+    }
+
+-- with one more node behind
+behind : (rs : List Row) (ts : List Tree) (k : ℕ) (r : Row) → Child rs ts k → Child (rs ++ r ∷ []) ts k
+behind rs ts k r c =
+    record {
+      before = c.before;
+      after = c.after ++ r ∷ [];
+      depth = c.depth;
+      rows_are = ap (λ l. l ++ r ∷ []) c.rows_are ∙ append_assoc c.before (rows_at c.depth (get_or ts k true_) ++ c.after) (r ∷ []) ∙ ap (λ l. c.before ++ l) (append_assoc (rows_at c.depth (get_or ts k true_)) c.after (r ∷ []));
+      stands = c.stands;
+    }
+
+-- before the body of a binder
+beside : (d : ℕ) (ps : Parts) (e : Tree) (r : Row) (k : ℕ) → k < size ps → Child (all_rows d ps) (list_of ps) k → Child (all_rows d ps ++ (rows_at (suc d) e ++ r ∷ [])) (list_of ps ++ e ∷ []) k
+beside d ps e r k h c =
+    let z = length-list_of ps in
+    let g : get_or (list_of ps ++ e ∷ []) k true_ ≡ get_or (list_of ps) k true_ = get_or-append (list_of ps) (e ∷ []) true_ k (omega (arith, z)) in
+    let t : take (suc k) (list_of ps ++ e ∷ []) ≡ take (suc k) (list_of ps) = take-append-le (suc k) (list_of ps) (e ∷ []) (omega (arith, z)) in
+    record {
+      before = c.before;
+      after = c.after ++ (rows_at (suc d) e ++ r ∷ []);
+      depth = c.depth;
+      rows_are = ap (λ l. l ++ (rows_at (suc d) e ++ r ∷ [])) c.rows_are ∙ append_assoc c.before (rows_at c.depth (get_or (list_of ps) k true_) ++ c.after) (rows_at (suc d) e ++ r ∷ []) ∙ ap (λ l. c.before ++ l) (append_assoc (rows_at c.depth (get_or (list_of ps) k true_)) c.after (rows_at (suc d) e ++ r ∷ [])) ∙ ap (λ u. c.before ++ (rows_at c.depth u ++ (c.after ++ (rows_at (suc d) e ++ r ∷ [])))) (sym g);
+      stands = ap (λ u. length c.before + nodes u) g ∙ c.stands ∙ ap nodes_in (sym t);
+    }
+
+body_child : (d : ℕ) (ps : Parts) (e : Tree) (r : Row) (k : ℕ) → k ≡ size ps → Child (all_rows d ps ++ (rows_at (suc d) e ++ r ∷ [])) (list_of ps ++ e ∷ []) k
+body_child d ps e r k h =
+    let n : k ≡ length (list_of ps) = h ∙ sym (length-list_of ps) in
+    let g : get_or (list_of ps ++ e ∷ []) k true_ ≡ e = ap (λ j. get_or (list_of ps ++ e ∷ []) j true_) n ∙ get_or-append_seam (list_of ps) e [] true_ in
+    let l = length-all_rows d ps in
+    let m = nodes_in-append (list_of ps) (e ∷ []) in
+    let o = nodes_in-list_of ps in
+    let q : take (suc k) (list_of ps ++ e ∷ []) ≡ list_of ps ++ e ∷ [] = take_all (suc k) (list_of ps ++ e ∷ []) (let z = length-append (list_of ps) (e ∷ []) in omega (arith, z, n)) in
+    record {
+      before = all_rows d ps;
+      after = r ∷ [];
+      depth = suc d;
+      rows_are = ap (λ u. all_rows d ps ++ (rows_at (suc d) u ++ r ∷ [])) (sym g);
+      stands = ap (λ u. length (all_rows d ps) + nodes u) g ∙ (omega (arith, l, m, o)) ∙ ap nodes_in (sym q);
+    }
+
+child : (d : ℕ) (u : Tree) (k : ℕ) → k < length (subtrees u) → Child (rows_at d u) (subtrees u) k
+child d (bound i) k h = absurd (omega arith)
+child d (app f ps) k h = let z = length-list_of ps in behind (all_rows d ps) (list_of ps) k (row (Symbol f) [] (size ps) d) (child_in d ps k (omega (arith, z)))
+child d (node g ns ps) k h = let z = length-list_of ps in behind (all_rows d ps) (list_of ps) k (row (Plain g) (table_numbers g ns (size ps)) (size ps) d) (child_in d ps k (omega (arith, z)))
+child d (bind b ps e) k h =
+    let z = length-list_of ps in
+    let y = length-append (list_of ps) (e ∷ []) in
+    elim (cases_lt k (size ps)) [
+      | inl l ↦ beside d ps e (row (Binding b) [] (suc (size ps)) d) k l (child_in d ps k l)
+      | inr l ↦ body_child d ps e (row (Binding b) [] (suc (size ps)) d) k (omega (arith, z, y))
+    ]
+
+-- the place of a part is the root of that part
+pub part_tree : (t : Tree) (i k j : ℕ) → i < length (rows_of t) → k < length (subtrees (subtree t i)) → j ≡ part_index t i k → subtree t j ≡ get_or (subtrees (subtree t i)) k true_
+part_tree t i k j h l e =
+    let p = place 0 t i (let l = length-rows_at 0 t in omega (arith, l)) in
+    let u : subtree t i ≡ p.tree = tree_of-prefix p.before p.depth p.tree p.after (rows_of t) i p.rows_are p.stands in
+    let b = part_before t i k h l in
+    rw u (go p (rw u at l) (rw u at b) (rw u at e))
+  where
+    go : (p : Place (rows_of t) (spans_of t) i) → k < length (subtrees p.tree) → nodes_in (drop (suc k) (subtrees p.tree)) < i → j ≡ (i - nodes_in (drop (suc k) (subtrees p.tree))) - 1 → subtree t j ≡ get_or (subtrees p.tree) k true_
+    go p l b e =
+        let ts : List Tree = subtrees p.tree in
+        let q = child p.depth p.tree k l in
+        let c : nodes_in (take (suc k) ts) + nodes_in (drop (suc k) ts) ≡ nodes_in ts =
+        sym (nodes_in-append (take (suc k) ts) (drop (suc k) ts)) ∙ ap nodes_in (take-append-drop (suc k) ts)
+        in
+        let z = nodes-subtrees p.tree in
+        let s = p.stands in
+        let f = q.stands in
+        let g = length-append p.before q.before in
+        let a : rows_of t ≡ (p.before ++ q.before) ++ (rows_at q.depth (get_or ts k true_) ++ (q.after ++ p.after)) =
+        p.rows_are ∙ ap (λ l. p.before ++ (l ++ p.after)) q.rows_are ∙ ap (λ l. p.before ++ l) (append_assoc q.before (rows_at q.depth (get_or ts k true_) ++ q.after) p.after ∙ ap (λ l. q.before ++ l) (append_assoc (rows_at q.depth (get_or ts k true_)) q.after p.after)) ∙ sym (append_assoc p.before q.before (rows_at q.depth (get_or ts k true_) ++ (q.after ++ p.after)))
+        in
+        tree_of-prefix (p.before ++ q.before) q.depth (get_or ts k true_) (q.after ++ p.after) (rows_of t) j a (omega (arith, c, z, s, f, g, b, e))

@@ -51,7 +51,7 @@ back-joined end e = refl
 back-joined (part d end) e = refl
 back-joined (part d (part c ps)) e = back-joined (part c ps) e
 
-kept-table : (h : Head) (ns : List ℕ) (k : ℕ) → kept_numbers h (table_numbers h ns k) ≡ ns
+pub kept-table : (h : Head) (ns : List ℕ) (k : ℕ) → kept_numbers h (table_numbers h ns k) ≡ ns
 kept-table h ns k =
     elim h as (λ h. kept_numbers h (table_numbers h ns k) ≡ ns)
     [ True ↦ refl | False ↦ refl | Num ↦ refl | Str ↦ refl | Boolean ↦ refl | Not ↦ refl | And ↦ refl | Or ↦ refl | Imp ↦ refl | Iff ↦ refl | Eq ↦ refl | In ↦ refl | Subseteq ↦ refl | Enum ↦ refl | Cup ↦ refl | Cap ↦ refl | Diff ↦ refl | Power ↦ refl | Union ↦ refl | FunSet ↦ refl | Dom ↦ refl | Apply ↦ refl | Except ↦ refl | Tuple ↦ refl | If ↦ refl | Temporal ↦ refl ]

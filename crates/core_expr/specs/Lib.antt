@@ -12,3 +12,4 @@ pub mod Equality
 pub mod Coding
 pub mod Keys
 pub mod Rename
+pub mod Laws

@@ -1,4 +1,5 @@
-ghost use Rattle.std.specs.Prelude.{◌≡◌, ◌↔◌, ◌<◌, ◌++◌, length, IsTrue, IfOk};
+ghost use Rattle.std.specs.Prelude.{◌≡◌, ◌↔◌, ◌<◌, ◌++◌, length, slice_index_or, IsTrue, IfOk};
+ghost use Rattle.core_expr.specs.Tree.{true_};
 ghost use Rattle.core_expr.specs.Heads.{IsWellFormed, fits, make, parts_of, front, back, are_well_formed, subtrees, kind_number, kind_symbol, HasBody};
 ghost use Rattle.core_expr.specs.Flat.{rows_of, rows_at, tree_of, row_at};
 ghost use Rattle.core_expr.specs.Spans.{spans_of, spans_in, rows_in, rows_under};
@@ -201,6 +202,7 @@ impl Expr {
         requires part { k < (row_at self.now i).parts }
         ensures value { result ≡ part_index self.now i k }
         ensures before { result < i }
+        ensures tree { subtree self.now result ≡ slice_index_or (subtrees (subtree self.now i)) k true_ }
     {
         let after = self.parts(i) - 1 - k;
         let end = back_over(self.spans.as_slice(), after, i as usize);

@@ -16,6 +16,7 @@ mod row;
 mod rows;
 mod spans;
 mod text;
+pub mod theorems;
 
 pub use canon::Canon;
 pub use expr::Expr;

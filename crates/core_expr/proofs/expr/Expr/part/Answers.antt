@@ -3,7 +3,7 @@ use Rattle.core_expr.specs.Heads.{subtrees}
 use Rattle.core_expr.specs.Places.{subtree}
 use Rattle.core_expr.specs.Spans.{spans_of, nodes_in}
 use Rattle.core_expr.proofs.SpanLaws.{length-spans_of, length-rows_at}
-use Rattle.core_expr.proofs.PlaceLaws.{part_place, part_before}
+use Rattle.core_expr.proofs.PlaceLaws.{part_place, part_before, part_tree}
 use Rattle.core_expr.proofs.expr.Expr.part.Goals as goal
 
 pub back_over-end-requires : goal.back_over-end-requires
@@ -33,3 +33,6 @@ returns-clause-value c = ap (λ n. n - 1) (found c)
 
 pub returns-clause-before : goal.returns-clause-before
 returns-clause-before c = let f = found c in let b = part_before c.args.self.now c.args.i c.args.k c.requires.node (is_part c) in omega (arith, f, b)
+
+pub returns-clause-tree : goal.returns-clause-tree
+returns-clause-tree c = part_tree c.args.self.now c.args.i c.args.k _ c.requires.node (is_part c) (ap (λ n. n - 1) (found c))

@@ -1,0 +1,64 @@
+-- Laws of expressions, as statements.
+use Rattle.std.specs.Prelude.{◌≡◌, ◌↔◌, ℕ, true, IsTrue, Option, List, length}
+use Rattle.core_expr.specs.declared.head.Sym.{Sym}
+use Rattle.core_expr.specs.Tree.{Tree, Parts}
+use Rattle.core_expr.specs.Put.{shift, put, inst, sub, IsScoped}
+use Rattle.core_expr.specs.Terms.{same, is_scoped}
+use Rattle.core_expr.specs.Heads.{fits, make, subtrees, kind_number, kind_symbol, parts_of, are_well_formed, IsWellFormed}
+use Rattle.core_expr.specs.Flat.{rows_of, tree_of}
+use Rattle.core_expr.specs.Places.{kind_of, root_numbers}
+
+-- putting in and substituting for symbols commute
+abbrev pub PuttingInCommutes : Type 0
+PuttingInCommutes = (s : Sym → Option Tree) (p t : Tree) → sub s (inst p t) ≡ inst (sub s p) (sub s t)
+
+-- putting anything into a closed expression, and moving its loose variables, leave it as it is
+abbrev pub ClosedStays : Type 0
+ClosedStays = (t : Tree) → IsScoped 0 t → ((d : ℕ) (ts : Parts) → put d ts t ≡ t) × ((c k : ℕ) → shift c k t ≡ t)
+
+-- substituting for symbols adds no loose variable
+abbrev pub SubstitutionKeepsScopes : Type 0
+SubstitutionKeepsScopes = (s : Sym → Option Tree) (n : ℕ) (t : Tree) → IsScoped n t → IsScoped n (sub s t)
+
+-- putting in leaves only the loose variables of what is put in
+abbrev pub PuttingInScopes : Type 0
+PuttingInScopes = (n : ℕ) (p t : Tree) → IsScoped n t → IsScoped n (inst p t)
+
+-- putting a well-formed expression into another gives a well-formed one
+abbrev pub PuttingInKeepsForm : Type 0
+PuttingInKeepsForm = (p t : Tree) → IsWellFormed p → IsWellFormed t → IsWellFormed (inst p t)
+
+-- the nodes of a tree give it back
+abbrev pub NodesGiveBack : Type 0
+NodesGiveBack = (t : Tree) → tree_of (rows_of t) ≡ t
+
+-- the test of equality says equality
+abbrev pub SameIsEqual : Type 0
+SameIsEqual = (a b : Tree) → (same a b ≡ true) ↔ (a ≡ b)
+
+-- the test of scopes says that there is no loose variable from n on
+abbrev pub ScopedIsTested : Type 0
+ScopedIsTested = (n : ℕ) (t : Tree) → (is_scoped n t ≡ true) ↔ IsScoped n t
+
+-- a tree shows what it was made of
+pub record Shows (h : ℕ) (f : Option Sym) (ns : List ℕ) (ts : List Tree) (t : Tree) : Type 0 where
+  pub head_is : kind_number (kind_of t) ≡ h
+  pub symbol_is : kind_symbol (kind_of t) ≡ f
+  pub numbers_are : root_numbers t ≡ ns
+  pub parts_are : subtrees t ≡ ts
+
+-- a node made of fitting things shows them
+abbrev pub MadeShows : Type 0
+MadeShows = (h : ℕ) (f : Option Sym) (ns : List ℕ) (ts : List Tree) → IsTrue (fits h f ns (length ts)) → Shows h f ns ts (make h f ns ts)
+
+-- a node made of fitting things over well-formed parts is well formed
+abbrev pub MadeIsFormed : Type 0
+MadeIsFormed = (h : ℕ) (f : Option Sym) (ns : List ℕ) (ts : List Tree) → IsTrue (fits h f ns (length ts)) → IsTrue (are_well_formed (parts_of ts)) → IsWellFormed (make h f ns ts)
+
+-- a tree is the node made of what it shows
+abbrev pub ShownMakes : Type 0
+ShownMakes = (t : Tree) → make (kind_number (kind_of t)) (kind_symbol (kind_of t)) (root_numbers t) (subtrees t) ≡ t
+
+-- what a well-formed tree shows fits the table
+abbrev pub ShownFits : Type 0
+ShownFits = (t : Tree) → IsWellFormed t → IsTrue (fits (kind_number (kind_of t)) (kind_symbol (kind_of t)) (root_numbers t) (length (subtrees t)))
