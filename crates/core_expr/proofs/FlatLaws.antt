@@ -38,7 +38,7 @@ replaced-append [] qs by = refl
 replaced-append (r ∷ rs) qs by = rw (append_assoc, replaced-append rs qs by)
 
 -- a variable is loose or bound
-pub flip : (d i : ℕ) {A : Type 0} (x y : A) → cond (nat_lt i d) x y ≡ cond (nat_le d i) y x
+flip : (d i : ℕ) {A : Type 0} (x y : A) → cond (nat_lt i d) x y ≡ cond (nat_le d i) y x
 flip d i x y = elim (cases_lt i d) [ inl l ↦ grind (arith, nat_tests) | inr l ↦ grind (arith, nat_tests) ]
 
 replaced_bound : (t : Tree) (d i : ℕ) (y : Bool) → IsScoped 0 t → (y ≡ false → i ≡ d) → rows_at d (cond y (bound i) (shift 0 d (argument (part t end) (i - d)))) ≡ cond y (row Bound (i ∷ []) 0 d ∷ []) (raised d (rows_at 0 t))

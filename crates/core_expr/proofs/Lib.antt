@@ -8,3 +8,4 @@ pub mod PlaceLaws
 pub mod Fed
 pub mod RenameLaws
 pub mod Shown
+pub mod IndexLaws

@@ -21,7 +21,6 @@ use Rattle.core_expr.specs.Coding.{tree_of-rows_of}
 use Rattle.core_expr.specs.Rename.{named, all_formed, body_for, is_free_row, lifted_row, lifted, begin, between, argument_rows, filled_row, filled, is_variable, root_symbol, applied_symbol, put_nodes, next_nodes, next_starts, renamed}
 use Rattle.core_expr.proofs.Laws.{size-shifts, size-puts, size-subs}
 use Rattle.core_expr.proofs.Formed.{formed-put}
-use Rattle.core_expr.proofs.FlatLaws.{flip}
 
 -- lifting
 lifted-append : (k d : ℕ) (rs qs : List Row) → lifted k d (rs ++ qs) ≡ lifted k d rs ++ lifted k d qs

@@ -13,3 +13,4 @@ pub mod Coding
 pub mod Keys
 pub mod Rename
 pub mod Laws
+pub mod Index

@@ -2,6 +2,7 @@ ghost use Rattle.std.specs.Prelude.{◌≡◌, ◌↔◌, ◌<◌, ◌∷◌, �
 ghost use Rattle.core_expr.specs.Heads.{is_well_formed, is_empty, is_only};
 ghost use Rattle.core_expr.specs.Flat.{rows_of, row};
 ghost use Rattle.core_expr.specs.Put.{sub};
+ghost use Rattle.core_expr.specs.Index.{named_at, Indexes};
 ghost use Rattle.core_expr.specs.Rename.{named, all_formed, body_for, is_free_row, lifted_row, lifted, begin, between, argument_rows, filled_row, filled, is_variable, root_symbol, applied_symbol, put_nodes, next_nodes, next_starts, renamed};
 
 use crate::expr::Expr;
@@ -11,6 +12,7 @@ use crate::row::{Row, RowKind};
 use crate::rows::{copy_row, first_number, is_loose};
 use sqlite_items::Items;
 use std::alloc::Global;
+use std::collections::HashMap;
 
 /// Puts the item at the end.
 fn push<T: Drop>(items: &mut Vec<T>, item: T) -> Result<(), Memory>
@@ -244,31 +246,53 @@ fn put_body(
     Ok(())
 }
 
-/// Whether two symbols are equal.
-fn same_sym(a: Sym, b: Sym) -> bool
-    ensures { IsTrue result ↔ (a ≡ b) }
+/// For each symbol the place of its first pair.
+fn index(alloc: Global, by: &[(Sym, Expr)]) -> Result<HashMap<Sym, usize>, Memory>
+    ensures { IfOk result (λ m. Indexes by.now by.now m) }
 {
-    a == b
+    let mut places = HashMap::new(alloc);
+    for done in 0..by.len() {
+        let at = by.len() - 1 - done;
+        match places.insert(by[at].0, at) {
+            Ok(_) => {}
+            Err(_) => return Err(Memory),
+        }
+    }
+    Ok(places)
+}
+
+/// The expression of the pair at the place.
+fn nth(by: &[(Sym, Expr)], at: usize) -> Option<&Expr>
+    ensures { MatchOption result (named_at by.now (Some at) ≡ None) (λ e. named_at by.now (Some at) ≡ Some e.now) }
+{
+    match by.get(at) {
+        Some(pair) => Some(&pair.1),
+        None => None,
+    }
 }
 
 /// What is put for a symbol: the expression of the first pair with it.
-fn find(by: &[(Sym, Expr)], sym: Sym) -> Option<&Expr>
+fn find<'a>(by: &'a [(Sym, Expr)], places: &HashMap<Sym, usize>, sym: Sym) -> Option<&'a Expr>
+    requires { Indexes by.now by.now places.now }
     ensures { MatchOption result (named by.now sym ≡ None) (λ e. named by.now sym ≡ Some e.now) }
 {
-    for pair in by {
-        if same_sym(pair.0, sym) {
-            return Some(&pair.1);
-        }
+    match places.get(&sym) {
+        Some(at) => nth(by, *at),
+        None => None,
     }
-    None
 }
 
 /// What is put for a node of this kind.
-fn body_for(by: &[(Sym, Expr)], kind: RowKind) -> Option<&Expr>
+fn body_for<'a>(
+    by: &'a [(Sym, Expr)],
+    places: &HashMap<Sym, usize>,
+    kind: RowKind,
+) -> Option<&'a Expr>
+    requires { Indexes by.now by.now places.now }
     ensures { MatchOption result (body_for (named by.now) kind ≡ None) (λ e. body_for (named by.now) kind ≡ Some e.now) }
 {
     match kind {
-        RowKind::Symbol(sym) => find(by, sym),
+        RowKind::Symbol(sym) => find(by, places, sym),
         _ => None,
     }
 }
@@ -280,10 +304,12 @@ fn complete(
     starts: &[usize],
     row: &Row,
     by: &[(Sym, Expr)],
+    places: &HashMap<Sym, usize>,
 ) -> Result<(), Memory>
+    requires { Indexes by.now by.now places.now }
     ensures { OnOk result (out.new.items ≡ next_nodes (named by.now) row.now out.old.items starts.now) }
 {
-    match body_for(by, row.kind) {
+    match body_for(by, places, row.kind) {
         Some(body) => put_body(alloc, out, starts, row, body.rows()),
         None => push(out, copy_row(alloc, row, row.depth)?),
     }
@@ -302,11 +328,12 @@ fn restart(starts: &mut Vec<usize>, row: &Row, end: usize) -> Result<(), Memory>
 fn rename_rows(alloc: Global, rows: &[Row], by: &[(Sym, Expr)]) -> Result<Vec<Row>, Memory>
     ensures { IfOk result (λ v. v.items ≡ renamed (named by.now) rows.now [] []) }
 {
+    let places = index(alloc, by)?;
     let mut out = Vec::new(alloc);
     let mut starts = Vec::new(alloc);
     for row in rows {
         let end = out.len();
-        complete(alloc, &mut out, starts.as_slice(), row, by)?;
+        complete(alloc, &mut out, starts.as_slice(), row, by, &places)?;
         restart(&mut starts, row, end)?;
     }
     Ok(out)
