@@ -44,12 +44,12 @@ chosen by bs p f k o false q h = h
 
 pub index_step : {H : Type 0} → (by : List (Sym × Tree)) (old new : HashMap Sym ℕ H) (k a b : ℕ) (d : Sym × Tree) → k < length by → a ≡ k + 1 → b ≡ k → Indexes by (drop a by) old → ((q : Sym) → get sym_eq new q ≡ cond (sym_eq (get_or by k d).0 q) (Some k) (get sym_eq old q)) → Indexes by (drop b by) new
 index_step by old new k a b d h e g i u = λ f.
-  let p : Sym × Tree = get_or by k d in
-  let read : drop b by ≡ p ∷ drop a by = ap (λ n. drop n by) g ∙ drop-cons by k d h ∙ (let z : suc k ≡ a = omega arith in ap (λ n. p ∷ drop n by) z) in
-  ap (named_at by) (u f)
-  ∙ ap (λ x. named_at by (cond x (Some k) (get sym_eq old f))) (sym_eq-is p.0 f)
-  ∙ chosen by (drop a by) p f k (get sym_eq old f) (same_sym p.0 f) (slice_get-get_or by k d h) (i f)
-  ∙ ap (λ (l : List (Sym × Tree)). named l f) (sym read)
+    let p : Sym × Tree = get_or by k d in
+    let read : drop b by ≡ p ∷ drop a by = ap (λ n. drop n by) g ∙ drop-cons by k d h ∙ (let z : suc k ≡ a = omega arith in ap (λ n. p ∷ drop n by) z) in
+    ap (named_at by) (u f)
+    ∙ ap (λ x. named_at by (cond x (Some k) (get sym_eq old f))) (sym_eq-is p.0 f)
+    ∙ chosen by (drop a by) p f k (get sym_eq old f) (same_sym p.0 f) (slice_get-get_or by k d h) (i f)
+    ∙ ap (λ (l : List (Sym × Tree)). named l f) (sym read)
 
 drop_all : (by : List (Sym × Tree)) (i : ℕ) → i ≡ length by → drop i by ≡ []
 drop_all [] zero h = refl
@@ -59,8 +59,8 @@ drop_all (p ∷ by) (suc i) h = drop_all by i (omega arith)
 
 pub index_start : {H : Type 0} → (by : List (Sym × Tree)) (new : HashMap Sym ℕ H) (a : ℕ) → a ≡ length by → new.entries ≡ [] → Indexes by (drop a by) new
 index_start by new a h e = λ f.
-  let o : get sym_eq new f ≡ None = rw e refl in
-  ap (named_at by) o ∙ ap (λ (l : List (Sym × Tree)). named l f) (sym (drop_all by a h))
+    let o : get sym_eq new f ≡ None = rw e refl in
+    ap (named_at by) o ∙ ap (λ (l : List (Sym × Tree)). named l f) (sym (drop_all by a h))
 
 pub index_end : {H : Type 0} → (by : List (Sym × Tree)) (new : HashMap Sym ℕ H) (a : ℕ) → a ≡ 0 → Indexes by (drop a by) new → Indexes by by new
 index_end by new a h i = λ f. i f ∙ ap (λ n. named (drop n by) f) h
