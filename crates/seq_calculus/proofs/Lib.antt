@@ -4,3 +4,9 @@ pub mod Closed
 pub mod Examples
 pub mod Made
 pub mod Named
+pub mod Fits
+pub mod Listed
+pub mod Tuples
+pub mod Lone
+pub mod Dispatch
+pub mod Counted

@@ -5,3 +5,4 @@ pub mod Lists
 pub mod Steps
 pub mod Example
 pub mod Families
+pub mod Literals

@@ -1,13 +1,12 @@
-ghost use Rattle.std.specs.Prelude.{◌≡◌, ℕ, List, [], ◌∷◌, length, IsTrue, IfOk};
+ghost use Rattle.std.specs.Prelude.{◌≡◌, ℕ, List, [], ◌∷◌, ◌++◌, length, IsTrue, IfOk, OnOk};
 ghost use Rattle.core_expr.specs.Tree.{num_};
 ghost use Rattle.core_expr.specs.Tree.Tree.{bound, node, bind};
 ghost use Rattle.core_expr.specs.Tree.Parts.{end, part};
 ghost use Rattle.core_expr.specs.Terms.{head_code, binder_code};
 ghost use Rattle.core_expr.specs.Heads.{head_arity, binder_arity, plain_fits, parts_of};
 
-use std::alloc::{AllocError, Global};
-
 use core_expr::{Binder, Expr, Head, Memory};
+use std::alloc::Global;
 
 /// The number of a head that binds nothing.
 fn head_number(head: Head) -> u64
@@ -57,30 +56,40 @@ fn binder_number(binder: Binder) -> u64
     }
 }
 
+/// Puts an expression at the end of a list.
+pub(crate) fn push(list: &mut Vec<Expr>, e: Expr) -> Result<(), Memory>
+    ensures { OnOk result (list.new.items ≡ list.old.items ++ e ∷ []) }
+{
+    match list.push(e) {
+        Ok(()) => Ok(()),
+        Err(_) => Err(Memory),
+    }
+}
+
 /// The list of one expression.
-fn list_of_one(alloc: Global, a: Expr) -> Result<Vec<Expr>, AllocError>
+fn list_of_one(alloc: Global, a: Expr) -> Result<Vec<Expr>, Memory>
     ensures { IfOk result (λ v. v.items ≡ a ∷ []) }
 {
     let mut list = Vec::new(alloc);
-    list.push(a)?;
+    push(&mut list, a)?;
     Ok(list)
 }
 
 /// The list of two expressions.
-fn list_of_two(alloc: Global, a: Expr, b: Expr) -> Result<Vec<Expr>, AllocError>
+fn list_of_two(alloc: Global, a: Expr, b: Expr) -> Result<Vec<Expr>, Memory>
     ensures { IfOk result (λ v. v.items ≡ a ∷ b ∷ []) }
 {
     let mut list = list_of_one(alloc, a)?;
-    list.push(b)?;
+    push(&mut list, b)?;
     Ok(list)
 }
 
 /// The list of three expressions.
-fn list_of_three(alloc: Global, a: Expr, b: Expr, c: Expr) -> Result<Vec<Expr>, AllocError>
+fn list_of_three(alloc: Global, a: Expr, b: Expr, c: Expr) -> Result<Vec<Expr>, Memory>
     ensures { IfOk result (λ v. v.items ≡ a ∷ b ∷ c ∷ []) }
 {
     let mut list = list_of_two(alloc, a, b)?;
-    list.push(c)?;
+    push(&mut list, c)?;
     Ok(list)
 }
 
@@ -129,7 +138,13 @@ pub(crate) fn quantified(alloc: Global, binder: Binder, body: Expr) -> Result<Ex
     requires { binder_arity binder ≡ 1 }
     ensures { IfOk result (λ e. e ≡ bind binder end body) }
 {
-    Expr::build(alloc, binder_number(binder), None, &[], list_of_one(alloc, body)?)
+    Expr::build(
+        alloc,
+        binder_number(binder),
+        None,
+        &[],
+        list_of_one(alloc, body)?,
+    )
 }
 
 /// The binder over this set and body.
@@ -137,7 +152,13 @@ pub(crate) fn ranged(alloc: Global, binder: Binder, set: Expr, body: Expr) -> Re
     requires { binder_arity binder ≡ 2 }
     ensures { IfOk result (λ e. e ≡ bind binder (part set end) body) }
 {
-    Expr::build(alloc, binder_number(binder), None, &[], list_of_two(alloc, set, body)?)
+    Expr::build(
+        alloc,
+        binder_number(binder),
+        None,
+        &[],
+        list_of_two(alloc, set, body)?,
+    )
 }
 
 /// The variable of the innermost binder.
@@ -151,5 +172,11 @@ pub(crate) fn innermost(alloc: Global) -> Result<Expr, Memory>
 pub(crate) fn numeral(alloc: Global, value: u64) -> Result<Expr, Memory>
     ensures { IfOk result (λ e. e ≡ num_ 0 value) }
 {
-    Expr::build(alloc, head_number(Head::Num), None, &[0, value], Vec::new(alloc))
+    Expr::build(
+        alloc,
+        head_number(Head::Num),
+        None,
+        &[0, value],
+        Vec::new(alloc),
+    )
 }
