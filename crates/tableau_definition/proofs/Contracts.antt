@@ -1,18 +1,22 @@
 -- The laws that the contracts state, from the lemmas on either edition.
-use Rattle.std.specs.Prelude.{◌≡◌, ℕ, Bool, true, false, Option, Some, None, List, [], ◌∷◌}
+use Rattle.std.specs.Prelude.{◌≡◌, ℕ, Bool, true, false, Option, Some, None, List}
 use Rattle.std.proofs.Common.{refl, sym, ◌∙◌, subst}
 use Rattle.core_expr.specs.Tree.{Tree}
 use Rattle.tableau_definition.specs.Search.{search}
 use Rattle.tableau_definition.specs.Search.End.{Closed}
-use Rattle.tableau_definition.specs.Laws.{ClosedDerives, ClosedHasTree, TreeRefutes, TreeDerives, AtomsHaveRoom, AnswerUnifies, AnswerIsGeneral, NoneMeansNone, UnifierHasRoom}
+use Rattle.tableau_definition.specs.Laws.{ClosedDerives, ClosedHasTree, TreeRefutes, TreeDerives, AtomsHaveRoom, AnswerUnifies, AnswerIsGeneral, NoneMeansNone, UnifierHasRoom, FirstIsByRank, SearchedIsClosed, RuleTells, RuleIsSided}
 use Rattle.tableau_definition.proofs.Sound.{IsClosedEnd, search-sound}
 use Rattle.tableau_definition.proofs.Used.{search2-sound}
 use Rattle.tableau_definition.proofs.Turned.{closed-uses, turns-sound}
 use Rattle.tableau_definition.proofs.Treed.{search-tree}
 use Rattle.tableau_definition.specs.Instances.{Binding, mgu}
 use Rattle.core_expr.specs.declared.head.Sym.{Sym}
-use Rattle.tableau_definition.specs.Unifiers.{IsUnifier, answers, StandAlone}
+use Rattle.tableau_definition.specs.Unifiers.{IsUnifier, answers}
 use Rattle.tableau_definition.proofs.Unifier.{mgu-unifies, mgu-general, mgu-complete, mgu-room}
+use Rattle.tableau_definition.specs.Ranks.{Result}
+use Rattle.tableau_definition.specs.Search.{first_rule, Applies}
+use Rattle.tableau_definition.proofs.Applied.{first-by-rank, first-applies, none-applies, searched-closed}
+use Rattle.tableau_definition.proofs.Telling.{rule-told, rule-sided}
 use Rattle.tableau_definition.proofs.Rooms.{signed-room}
 use Rattle.tableau_definition.proofs.Grown.{search-tree1}
 
@@ -57,3 +61,22 @@ none_means_none s t a b = (to, from (mgu s t) refl)
 
 pub unifier_has_room : UnifierHasRoom
 unifier_has_room s t room r = mgu-room s t room r
+
+pub rule_tells : RuleTells
+rule_tells w b r e = rule-told w b r e
+
+pub rule_is_sided : RuleIsSided
+rule_is_sided w b r cw cb e = rule-sided w b r cw cb e
+
+pub first_is_by_rank : FirstIsByRank
+first_is_by_rank w b = (first-by-rank w b, first-applies w b, (none-applies-all, from (first_rule w b) refl))
+  where
+    none-applies-all : first_rule w b ≡ None → (r : Result) → Applies w b r → ⊥
+    none-applies-all e r h = none-applies w b r e h
+
+    from : (o : Option Result) → first_rule w b ≡ o → ((r : Result) → Applies w b r → ⊥) → first_rule w b ≡ None
+    from None e h = e
+    from (Some r) e h = absurd (h r (first-applies w b r e))
+
+pub searched_is_closed : SearchedIsClosed
+searched_is_closed w b t h = searched-closed w b t h

@@ -9,14 +9,14 @@ use Rattle.tableau_definition.specs.Ranks.{Side, Result}
 use Rattle.tableau_definition.specs.Search.{first_rule, Open, Turning, union, needs_of, split_number, with_path, apply_sides, apply, taken, Next, turn, End, run, start, spare, search}
 use Rattle.tableau_definition.specs.Search.Next.{Stuck, Goes}
 use Rattle.tableau_definition.specs.Search.End.{Saturated, Spent}
-use Rattle.tableau_definition.specs.Turns.{Turns, IsClosedFor}
+use Rattle.tableau_definition.specs.Turns.{Turns, IsSearched}
 use Rattle.tableau_definition.specs.Turns.Turns.{shut, one, both}
 use Rattle.tableau_definition.proofs.Sides.{EachClosed, Sided, Sided-closed, FineResult, added-all, Closed-all, HasAll-append}
 use Rattle.tableau_definition.proofs.Sound.{first_rule-fine, IsClosedEnd, OpensClosed, OpensClosed-append, path-closed, sides-closed}
 
 module _ (w : Tree) where
   abbrev HasTree : Branch → Type 0
-  HasTree b = (t : Turns) × IsClosedFor w b t
+  HasTree b = (t : Turns) × IsSearched w b t
 
   abbrev AllHave : List Open → Type 0
   AllHave [] = Unit {0}
@@ -64,7 +64,7 @@ module _ (w : Tree) where
 
 -- closed without dropping: a tree that is closed for the start branch
 pub search-tree1 : (symbols : ℕ) (facts : List Tree) (goal : Tree) (n : ℕ) → AllClosed facts → IsClosed goal → IsClosedEnd (search false symbols facts goal n)
-    → (t : Turns) × IsClosedFor (spare symbols) (add_all [] [] (facts ++ not_ goal ∷ [])) t
+    → (t : Turns) × IsSearched (spare symbols) (add_all [] [] (facts ++ not_ goal ∷ [])) t
 unfolding search
 search-tree1 symbols facts goal n cf cg h =
     let all : List Tree = not_ goal ∷ facts in

@@ -27,3 +27,5 @@ pub mod Reducing
 pub mod Decides
 pub mod Rooms
 pub mod Unifier
+pub mod Telling
+pub mod Applied

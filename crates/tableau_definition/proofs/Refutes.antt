@@ -10,12 +10,13 @@ use Rattle.tableau_definition.specs.Values.{Truth, in_list}
 use Rattle.tableau_definition.specs.Values.Truth.{Yes, No, Unknown}
 use Rattle.tableau_definition.specs.Ranks.{Side, Step, Result, gives, split}
 use Rattle.tableau_definition.specs.Search.{first_rule, spare}
-use Rattle.tableau_definition.specs.Turns.{Turns, result_of, newly, minus, meets, used_by, IsClosedFor}
+use Rattle.tableau_definition.specs.Turns.{Turns, result_of, newly, minus, meets, used_by, IsSearched}
 use Rattle.tableau_definition.specs.Turns.Turns.{shut, one, first, both}
 use Rattle.tableau_definition.specs.Laws.{start_branch}
 use Rattle.tableau_definition.specs.Propositional.{Formula, Formulas, negated, Valuation, value_under, AllHold, connective_plain, connective_value, all_true, first_false, settle_between, connective_settle, connective_closes, connective_closing_from, ClosedIsValid}
 use Rattle.tableau_definition.specs.Propositional.Formula.{f_true, f_false, f_symbol, f_not, f_and, f_or, f_imp, f_iff}
 use Rattle.tableau_definition.proofs.Says.{in_list-sound}
+use Rattle.tableau_definition.proofs.Applied.{searched-closed}
 use Rattle.tableau_definition.proofs.Contracts.{closed_has_tree, tree_refutes}
 use Rattle.tableau_definition.proofs.Connectives.{or_else, closings_left, Formulas-append, SidesFormulas, StepFormulas, split-formulas}
 use Rattle.tableau_definition.proofs.Kept.{Chosen, by-rank, chosen-formula, rule-formulas, formulas-add_all, formulas-used}
@@ -252,7 +253,7 @@ module _ (v : Valuation) where
   side-formulas b m r s p q = formulas-add_all m (used s.stays r.step.rises b r.entry) s.added (formulas-used s.stays r.step.rises b r.entry p) q
 
   -- what a closed tree uses is not true as a whole
-  tree-false : (w : Tree) (b : Branch) (t : Turns) → Formulas (formulas b) → IsClosedFor w b t → AllHold v (used_by b t) → ⊥
+  tree-false : (w : Tree) (b : Branch) (t : Turns) → Formulas (formulas b) → IsSearched w b t → AllHold v (used_by b t) → ⊥
   tree-false w b (shut c) p h k = closing-false [] (formulas b) tt p c (sym (closings_left b p) ∙ h) k
   tree-false w b (one m r s t) p h k =
       let q : SidesFormulas (s ∷ []) = subst SidesFormulas h.1 (rule-formulas w b r p h.0) in
@@ -322,5 +323,5 @@ closed_is_valid drops symbols facts goal limit n v p q h k =
     let b : Branch = start_branch facts goal in
     let of : Formulas (formulas b) = formulas-add_all [] [] (facts ++ not_ goal ∷ []) tt (Formulas-append facts (not_ goal ∷ []) p (f_not q, tt)) in
     let all : AllHold v (facts ++ not_ goal ∷ []) = AllHold-append v facts (not_ goal ∷ []) k.0 (false-negated (value_under v goal) k.1, tt) in
-    let on = tree_refutes (spare symbols) b t.0 tt (formulas-closed (formulas b) of) t.1 in
+    let on = tree_refutes (spare symbols) b t.0 tt (formulas-closed (formulas b) of) (searched-closed (spare symbols) b t.0 t.1) in
     tree-false v (spare symbols) b t.0 of t.1 (all-has v (formulas b) (used_by b t.0) on.0 (added-true v [] [] (facts ++ not_ goal ∷ []) tt all))

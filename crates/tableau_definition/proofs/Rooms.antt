@@ -1,17 +1,16 @@
 -- The room that the signed atoms take: four for each node are enough.
-use Rattle.std.specs.Prelude.{◌≡◌, ℕ, zero, suc, ◌+◌, ◌*◌, ◌-◌, ◌≤◌, ◌<◌, Bool, true, false, cond, nat_le, nat_lt, nat_eq, Option, Some, None, List, [], ◌∷◌, ◌++◌, length}
-use Rattle.std.proofs.lemmas.Bool.Decides.{nat_tests}
+use Rattle.std.specs.Prelude.{◌≡◌, ℕ, zero, suc, ◌+◌, ◌*◌, ◌-◌, ◌≤◌, ◌<◌, Bool, true, false, cond, nat_lt, nat_eq, List, [], ◌∷◌, ◌++◌, length}
 use Rattle.std.proofs.Common.{refl, ap, sym, ◌∙◌, arith, subst}
 use Rattle.core_expr.specs.declared.head.SymKind.{SymKind}
 use Rattle.core_expr.specs.declared.head.Head.TheVariants.{Eq}
-use Rattle.core_expr.specs.Tree.{Tree, Parts, size, true_, false_, boolean_, not_, and_, or_, imp_, iff_, eq_, in_, subseteq_, cup_, cap_, diff_, power_, union_, funset_, enum_, tuple_, all_, ex_, filter_, image_, fun_}
+use Rattle.core_expr.specs.Tree.{Tree, Parts, true_, false_, boolean_, not_, and_, or_, imp_, iff_, eq_, in_, subseteq_, cup_, cap_, diff_, power_, union_, funset_, enum_, tuple_, all_, ex_, filter_, image_, fun_}
 use Rattle.core_expr.specs.Tree.Tree.{bound, app, node, bind}
 use Rattle.core_expr.specs.Tree.Parts.{end, part}
 use Rattle.core_expr.specs.Put.{inst, put, puts, shift, shifts, argument}
 use Rattle.core_expr.specs.Terms.{nodes, nodes_of}
 use Rattle.seq_calculus.specs.Schemas.{join, join_from, equals_each}
-use Rattle.tableau_definition.specs.Ranks.{Signed, Left, list_of, member, left_side}
-use Rattle.tableau_definition.specs.Instances.{meta, Universal, has_no_parts, is_kept_filter, atoms, signed_atoms}
+use Rattle.tableau_definition.specs.Ranks.{Signed, list_of}
+use Rattle.tableau_definition.specs.Instances.{meta, Universal, has_no_parts, atoms, signed_atoms}
 
 -- sizes
 nodes-some : (e : Tree) → 1 ≤ nodes e

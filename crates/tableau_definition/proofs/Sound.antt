@@ -1,13 +1,13 @@
 -- What edition 1 closes has a derivation.
 use Rattle.std.specs.Prelude.{ℕ, zero, suc, Bool, true, false, Option, Some, None, List, [], ◌∷◌, ◌++◌}
-use Rattle.std.proofs.Common.{refl, inl}
+use Rattle.std.proofs.Common.{refl, subst, inl, inr}
 use Rattle.core_expr.specs.Tree.{Tree, not_}
 use Rattle.seq_calculus.specs.Calculus.{HasAll, IsClosed, AllClosed, Der}
 use Rattle.tableau_definition.proofs.Rules.{HasAll-itself, HasAll-one, weak, refute}
 use Rattle.tableau_definition.specs.Branches.{Branch, formulas, add_all, used, Closing, closing}
 use Rattle.tableau_definition.specs.Ranks.{Side, Result, oldest, plain, rewrite, derive, replace_rule, settle, choice, split, term_split, extension, take_up}
 use Rattle.tableau_definition.specs.Instances.{instance_rule, spare_rule}
-use Rattle.tableau_definition.specs.Search.{first_rule, Turning, Open, union, needs_of, split_number, waiting, with_path, apply_sides, apply, taken, Next, turn, End, run, start, spare, search}
+use Rattle.tableau_definition.specs.Search.{first_rule, by_rank, Among, Applies, Turning, Open, union, needs_of, split_number, waiting, with_path, apply_sides, apply, taken, Next, turn, End, run, start, spare, search}
 use Rattle.tableau_definition.specs.Search.Next.{Stuck, Goes}
 use Rattle.tableau_definition.specs.Search.End.{Closed, Saturated, Spent}
 use Rattle.tableau_definition.proofs.Sides.{EachClosed, Sided-closed, Refuted, Good, FineResult, oldest-fine, Shut, closing-shut, side-refuted, side-closed, added-all, Closed-all, HasAll-append}
@@ -18,6 +18,10 @@ use Rattle.tableau_definition.proofs.Instanced.{instance_rule-fine, spare_rule-f
 or_result : (g0 : List Tree) (o p : Option Result) → FineResult g0 o → FineResult g0 p → FineResult g0 (elim o [ Some r ↦ Some r | None ↦ p ])
 or_result g0 None p h k = k
 or_result g0 (Some r) p h k = h
+
+abbrev AllFine : List Tree → List (Option Result) → Type 0
+AllFine g0 [] = Unit {0}
+AllFine g0 (o ∷ os) = FineResult g0 o × AllFine g0 os
 
 -- every rank's result is fine
 pub first_rule-fine : (w : Tree) (b : Branch) → IsClosed w → AllClosed (formulas b) → FineResult (formulas b) (first_rule w b)
@@ -36,6 +40,51 @@ first_rule-fine w b cw c =
     (or_result g (instance_rule w b) _ (instance_rule-fine w b cw)
     (or_result g (spare_rule w b) _ (spare_rule-fine w b cw)
     (oldest-fine 12 (take_up b) g (take_up-fine b) 0 b all)))))))))))
+
+-- so is each rule that applies
+pub applies-fine : (w : Tree) (b : Branch) → IsClosed w → AllClosed (formulas b) → (r : Result) → Applies w b r → FineResult (formulas b) (Some r)
+applies-fine w b cw c r h =
+    let g : List Tree = formulas b in
+    let all : HasAll g g = HasAll-itself g in
+    among (by_rank w b) (
+      oldest-fine 1 plain g (plain-fine g) 0 b all,
+      (
+        oldest-fine 2 rewrite g (rewrite-fine g) 0 b all,
+        (
+          oldest-fine 3 (derive b) g (derive-fine b) 0 b all,
+          (
+            replace_rule-fine b,
+            (
+              oldest-fine 5 (settle b) g (λ f h. settle-fine b f c h) 0 b all,
+              (
+                oldest-fine 6 choice g (choice-fine g) 0 b all,
+                (
+                  oldest-fine 7 split g (split-fine g) 0 b all,
+                  (
+                    oldest-fine 8 (term_split b) g (term_split-fine b) 0 b all,
+                    (
+                      oldest-fine 9 extension g (extension-fine g) 0 b all,
+                      (
+                        instance_rule-fine w b cw,
+                        (
+                          spare_rule-fine w b cw,
+                          (oldest-fine 12 (take_up b) g (take_up-fine b) 0 b all, tt),
+                        ),
+                      ),
+                    ),
+                  ),
+                ),
+              ),
+            ),
+          ),
+        ),
+      ),
+    ) h
+  where
+    among : (os : List (Option Result)) → AllFine (formulas b) os → Among os r → FineResult (formulas b) (Some r)
+    among [] f h = absurd h
+    among (o ∷ os) f (inl e) = subst (FineResult (formulas b)) e f.0
+    among (o ∷ os) f (inr k) = among os f.1 k
 
 abbrev AllRefuted : List Open → Type 0
 AllRefuted [] = Unit {0}

@@ -12,7 +12,7 @@ use Rattle.tableau_definition.specs.Search.{first_rule, Open, contains, union, w
 use Rattle.tableau_definition.specs.Search.Mark.{Left, Waiting, Needed}
 use Rattle.tableau_definition.specs.Search.Next.{Stuck, Goes}
 use Rattle.tableau_definition.specs.Search.End.{Saturated, Spent}
-use Rattle.tableau_definition.specs.Turns.{Turns, result_of, newly, minus, meets, used_by, IsClosedFor}
+use Rattle.tableau_definition.specs.Turns.{Turns, result_of, newly, minus, meets, used_by, IsSearched}
 use Rattle.tableau_definition.specs.Turns.Turns.{shut, one, first, both}
 use Rattle.tableau_definition.proofs.Sides.{Sided, FineResult, Shut, closing-shut, added-all, Closed-all, HasAll-append}
 use Rattle.tableau_definition.proofs.Says.{in_list-sound}
@@ -104,7 +104,7 @@ module _ (b : Branch) (m : List ℕ) (r : Result) (s : Side) where
 module _ (w : Tree) where
   -- a closed tree, which uses only what stands on the branch with needs in u
   abbrev TreeIn : Branch → List ℕ → Type 0
-  TreeIn b u = (t : Turns) × (IsClosedFor w b t × HasAllIn b u (used_by b t))
+  TreeIn b u = (t : Turns) × (IsSearched w b t × HasAllIn b u (used_by b t))
 
   module _ (b : Branch) (r : Result) (rule : first_rule w b ≡ Some r) (on : HasAll (formulas b) r.step.named) (k : ℕ) (below : Below k b) where
     one-tree : (s : Side) → r.step.sides ≡ s ∷ [] → (u : List ℕ) → TreeIn (result_of b (union (needs_of b r.step.named) []) r s) u → TreeIn b u
@@ -246,16 +246,16 @@ module _ (w : Tree) where
 
 -- closed by edition 2: a tree that is closed for the start branch
 pub search-tree : (symbols : ℕ) (facts : List Tree) (goal : Tree) (n : ℕ) → AllClosed facts → IsClosed goal → IsClosedEnd (search true symbols facts goal n)
-    → (t : Turns) × IsClosedFor (spare symbols) (add_all [] [] (facts ++ not_ goal ∷ [])) t
+    → (t : Turns) × IsSearched (spare symbols) (add_all [] [] (facts ++ not_ goal ∷ [])) t
 unfolding search
 search-tree symbols facts goal n cf cg h =
     let all : List Tree = not_ goal ∷ facts in
     let b : Branch = add_all [] [] (facts ++ not_ goal ∷ []) in
     let have : HasAll all (formulas b) = added-all [] all [] (facts ++ not_ goal ∷ []) tt (HasAll-append all facts (not_ goal ∷ []) (HasAll-one (not_ goal) facts) (inl refl, tt)) in
     let cb : AllClosed (formulas b) = Closed-all all (formulas b) ((cg, tt), cf) have in
-    let ok : Ok (spare symbols) ((t : Turns) × IsClosedFor (spare symbols) b t) (start facts goal) =
+    let ok : Ok (spare symbols) ((t : Turns) × IsSearched (spare symbols) b t) (start facts goal) =
     next (record { branch = b; path = [] }) [] (λ u x. done (x.0, x.1.0)) in
-    run-tree (spare symbols) ((t : Turns) × IsClosedFor (spare symbols) b t) tt n 0 (start facts goal) ok ((cb, Below-added 0 [] [] (facts ++ not_ goal ∷ []) (λ n m. none n m) tt), tt) h
+    run-tree (spare symbols) ((t : Turns) × IsSearched (spare symbols) b t) tt n 0 (start facts goal) ok ((cb, Below-added 0 [] [] (facts ++ not_ goal ∷ []) (λ n m. none n m) tt), tt) h
   where
     none : (n : ℕ) → Member [] n → n ≤ 0
     none n h = cc

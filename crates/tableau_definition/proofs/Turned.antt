@@ -8,12 +8,12 @@ use Rattle.core_expr.specs.Terms.{same}
 use Rattle.tableau_definition.specs.Branches.{Branch, formulas, has, add_all}
 use Rattle.tableau_definition.specs.Values.{in_list}
 use Rattle.tableau_definition.specs.Ranks.{Side, Result}
-use Rattle.tableau_definition.specs.Search.{first_rule, spare}
+use Rattle.tableau_definition.specs.Search.{Applies, spare}
 use Rattle.tableau_definition.specs.Turns.{Turns, result_of, newly, minus, meets, used_by, IsClosedFor}
 use Rattle.tableau_definition.specs.Turns.Turns.{shut, one, first, both}
-use Rattle.tableau_definition.proofs.Sides.{Sided, Good, Fine, FineResult, Shut, closing-shut, side-closed, side-all, added-all, has-sound, Closed-all, Closed-append, HasAll-append, HasAll-more, HasAll-front}
+use Rattle.tableau_definition.proofs.Sides.{Sided, Good, Fine, Shut, closing-shut, side-closed, side-all, added-all, has-sound, Closed-all, Closed-append, HasAll-append, HasAll-more, HasAll-front}
 use Rattle.tableau_definition.proofs.Says.{in_list-sound, HasAll-at}
-use Rattle.tableau_definition.proofs.Sound.{first_rule-fine}
+use Rattle.tableau_definition.proofs.Sound.{applies-fine}
 use Rattle.tableau_definition.proofs.Used.{same-self, narrow, weaker, HasAll-deep}
 
 pub true_not_false : true ≡ false → ⊥
@@ -189,8 +189,8 @@ module _ (b : Branch) (c : AllClosed (formulas b)) (r : Result) (fine : Fine (fo
                 (HasAll-front (minus us (newly b l.added)) (minus vs (newly b s.added))) d.1,
           )
 
-fine_of : (w : Tree) → IsClosed w → (b : Branch) (r : Result) → AllClosed (formulas b) → first_rule w b ≡ Some r → Fine (formulas b) r.step
-fine_of w cw b r c e = subst (FineResult (formulas b)) e (first_rule-fine w b cw c)
+fine_of : (w : Tree) → IsClosed w → (b : Branch) (r : Result) → AllClosed (formulas b) → Applies w b r → Fine (formulas b) r.step
+fine_of w cw b r c e = applies-fine w b cw c r e
 
 -- the theorem of closed trees
 pub closed-uses : (w : Tree) → IsClosed w → (b : Branch) (t : Turns) → AllClosed (formulas b) → IsClosedFor w b t → Uses b (used_by b t)

@@ -11,7 +11,7 @@ use Rattle.core_expr.specs.Tree.{Tree, Parts}
 use Rattle.core_expr.specs.Tree.Tree.{bound, app, node, bind}
 use Rattle.core_expr.specs.Tree.Parts.{end, part}
 use Rattle.core_expr.specs.Put.{IsScoped, AreScoped}
-use Rattle.core_expr.specs.Terms.{head_code, binder_code, lists_equal, same_sym, same, sames, nodes, nodes_of, is_scoped, are_scoped}
+use Rattle.core_expr.specs.Terms.{head_code, binder_code, lists_equal, same_sym, same, nodes, nodes_of, is_scoped, are_scoped}
 use Rattle.core_expr.proofs.Equal.{same-true, nat-same, lists-same, scoped-true}
 use Rattle.core_expr.proofs.Laws.{IsScoped-shift, shift_closed}
 use Rattle.seq_calculus.specs.Calculus.{IsClosed}

@@ -1,5 +1,5 @@
 -- What is proved of the written search. Each statement is the contract of a function of src/laws.rt.
-use Rattle.std.specs.Prelude.{◌≡◌, ℕ, ◌+◌, ◌*◌, ◌≤◌, Bool, true, Option, Some, None, List, [], ◌∷◌, ◌++◌, ◌↔◌}
+use Rattle.std.specs.Prelude.{◌≡◌, ℕ, ◌+◌, ◌*◌, ◌≤◌, Bool, true, Some, None, List, [], ◌∷◌, ◌++◌, ◌↔◌}
 use Rattle.core_expr.specs.declared.head.Sym.{Sym}
 use Rattle.core_expr.specs.declared.head.SymKind.{SymKind}
 use Rattle.core_expr.specs.Tree.{Tree, not_}
@@ -9,9 +9,11 @@ use Rattle.core_expr.specs.Put.{inst}
 use Rattle.core_expr.specs.Terms.{nodes}
 use Rattle.tableau_definition.specs.Instances.{is_meta_kind, meta, Universal, atoms, signed_atoms, Binding, unify, mgu}
 use Rattle.tableau_definition.specs.Unifiers.{assign, IsUnifier, answers, StandAlone}
-use Rattle.tableau_definition.specs.Search.{spare, search}
+use Rattle.tableau_definition.specs.Ranks.{Result}
+use Rattle.tableau_definition.specs.Told.{OneOrTwo, Told}
+use Rattle.tableau_definition.specs.Search.{first_rule, by_rank, first_of, Applies, spare, search}
 use Rattle.tableau_definition.specs.Search.End.{Closed}
-use Rattle.tableau_definition.specs.Turns.{Turns, used_by, IsClosedFor}
+use Rattle.tableau_definition.specs.Turns.{Turns, used_by, IsClosedFor, IsSearched}
 
 -- where the search ends closed, in either edition, the goal has a derivation from the facts
 abbrev pub ClosedDerives : Type 0
@@ -21,11 +23,11 @@ ClosedDerives = (drops : Bool) (symbols : ℕ) (facts : List Tree) (goal : Tree)
 abbrev pub start_branch : List Tree → Tree → Branch
 start_branch facts goal = add_all [] [] (facts ++ not_ goal ∷ [])
 
--- where the search ends closed, in either edition, there is a tree of turns that is closed for the start branch
+-- where the search ends closed, in either edition, there is a tree of turns that the search makes of the start branch
 abbrev pub ClosedHasTree : Type 0
 ClosedHasTree =
     (drops : Bool) (symbols : ℕ) (facts : List Tree) (goal : Tree) (limit used : ℕ) → AllClosed facts → IsClosed goal → search drops symbols facts goal limit ≡ Closed used
-    → (t : Turns) × IsClosedFor (spare symbols) (start_branch facts goal) t
+    → (t : Turns) × IsSearched (spare symbols) (start_branch facts goal) t
 
 -- what a closed tree uses stands on its branch, and is contradictory by itself; w is the closed spare term
 abbrev pub TreeRefutes : Type 0
@@ -55,3 +57,20 @@ NoneMeansNone = (s t : Tree) → StandAlone s → StandAlone t → (mgu s t ≡ 
 -- with room for as many rounds as there are nodes, or more, the answer is the same
 abbrev pub UnifierHasRoom : Type 0
 UnifierHasRoom = (s t : Tree) (room : ℕ) → nodes s + nodes t ≤ room → unify room [] s t ≡ mgu s t
+
+-- the first rule is the first that a rank gives, it applies, and there is none exactly where no rule applies
+abbrev pub FirstIsByRank : Type 0
+FirstIsByRank =
+    (w : Tree) (b : Branch) → (first_rule w b ≡ first_of (by_rank w b)) × ((r : Result) → first_rule w b ≡ Some r → Applies w b r) × ((first_rule w b ≡ None) ↔ ((r : Result) → Applies w b r → ⊥))
+
+-- a tree that the search makes is closed for its branch
+abbrev pub SearchedIsClosed : Type 0
+SearchedIsClosed = (w : Tree) (b : Branch) (t : Turns) → IsSearched w b t → IsClosedFor w b t
+
+-- a rule that applies names its entry first; its rank and case tell where the entry stays live, and whether its count rises
+abbrev pub RuleTells : Type 0
+RuleTells = (w : Tree) (b : Branch) (r : Result) → Applies w b r → Told b r
+
+-- a rule that applies names formulas on the branch, and has one side or two, with closed formulas
+abbrev pub RuleIsSided : Type 0
+RuleIsSided = (w : Tree) (b : Branch) (r : Result) → IsClosed w → AllClosed (formulas b) → Applies w b r → HasAll (formulas b) r.step.named × OneOrTwo r.step.sides

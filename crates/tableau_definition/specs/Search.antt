@@ -1,5 +1,5 @@
 -- The written search, in both editions.
-use Rattle.std.specs.Prelude.{ℕ, zero, suc, Bool, true, false, nat_eq, Option, Some, None, List, [], ◌∷◌, ◌++◌}
+use Rattle.std.specs.Prelude.{◌≡◌, ◌⊎◌, ℕ, zero, suc, Bool, true, false, nat_eq, Option, Some, None, List, [], ◌∷◌, ◌++◌}
 use Rattle.core_expr.specs.declared.head.SymKind.TheVariants.{Canon}
 use Rattle.core_expr.specs.Tree.{Tree, not_}
 use Rattle.core_expr.specs.Tree.Tree.{app}
@@ -46,6 +46,25 @@ first_rule w b =
         ]
       ]
     ]
+
+-- what the rule of each rank gives on a branch, in the order of the ranks
+abbrev pub by_rank : Tree → Branch → List (Option Result)
+by_rank w b =
+    oldest 1 plain 0 b ∷ oldest 2 rewrite 0 b ∷ oldest 3 (derive b) 0 b ∷ replace_rule b ∷ oldest 5 (settle b) 0 b ∷ oldest 6 choice 0 b ∷ oldest 7 split 0 b ∷ oldest 8 (term_split b) 0 b ∷ oldest 9 extension 0 b ∷ instance_rule w b ∷ spare_rule w b ∷ oldest 12 (take_up b) 0 b ∷ []
+
+-- the first result of a list
+abbrev pub first_of : List (Option Result) → Option Result
+first_of [] = None
+first_of (o ∷ os) = elim o [ Some r ↦ Some r | None ↦ first_of os ]
+
+-- r is a result of the list
+abbrev pub Among : List (Option Result) → Result → Type 0
+Among [] r = ⊥
+Among (o ∷ os) r = (o ≡ Some r) ⊎ Among os r
+
+-- the rule applies to the branch: the rule of some rank gives just this
+abbrev pub Applies : Tree → Branch → Result → Type 0
+Applies w b r = Among (by_rank w b) r
 
 -- What a branch knows of a split on its path: it is on the first side; it waits on the second side; or it is on the second side, and the first closed with these needs.
 pub data Mark : Type 0 where

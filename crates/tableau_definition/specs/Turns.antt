@@ -4,7 +4,7 @@ use Rattle.core_expr.specs.Tree.{Tree}
 use Rattle.tableau_definition.specs.Branches.{Branch, has, add_all, used, Closing, closing}
 use Rattle.tableau_definition.specs.Values.{in_list}
 use Rattle.tableau_definition.specs.Ranks.{Side, Result}
-use Rattle.tableau_definition.specs.Search.{first_rule}
+use Rattle.tableau_definition.specs.Search.{first_rule, Applies}
 
 -- A tree of turns. Each rule comes with the needs that it gives, which stand first and steer no rule. shut is a closing; one is a rule with one resulting branch; first is a split whose first side alone has a tree, and both a split with a tree for each side.
 pub data Turns : Type 0 where
@@ -47,11 +47,17 @@ used_by b (both m r l s t v) =
       | false ↦ elim (meets (used_by (result_of b m r s) v) (newly b s.added)) [ true ↦ r.step.named ++ (us ++ vs) | false ↦ us ++ vs ]
     ]
 
--- The tree is closed for the branch b, with the spare term w: each closing is its branch's closing, each rule its branch's first rule, and a split without a tree for the second side is one whose first side uses nothing that the split newly added there.
+-- The tree is closed for the branch b by rules that stand to their branches as rule says: each closing is its branch's closing, and a split without a tree for the second side is one whose first side uses nothing that the split newly added there.
+abbrev pub IsClosedBy : (Branch → Result → Type 0) → Branch → Turns → Type 0
+IsClosedBy rule b (shut c) = closing b ≡ Some c
+IsClosedBy rule b (one m r s t) = rule b r × (r.step.sides ≡ s ∷ []) × IsClosedBy rule (result_of b m r s) t
+IsClosedBy rule b (first m r l s t) = rule b r × (r.step.sides ≡ l ∷ s ∷ []) × IsClosedBy rule (result_of b m r l) t × (meets (used_by (result_of b m r l) t) (newly b l.added) ≡ false)
+IsClosedBy rule b (both m r l s t v) = rule b r × (r.step.sides ≡ l ∷ s ∷ []) × IsClosedBy rule (result_of b m r l) t × IsClosedBy rule (result_of b m r s) v
+
+-- the tree is closed for the branch, with the spare term w: each of its rules applies to its branch
 abbrev pub IsClosedFor : Tree → Branch → Turns → Type 0
-IsClosedFor w b (shut c) = closing b ≡ Some c
-IsClosedFor w b (one m r s t) = (first_rule w b ≡ Some r) × (r.step.sides ≡ s ∷ []) × IsClosedFor w (result_of b m r s) t
-IsClosedFor w b (first m r l s t) =
-    (first_rule w b ≡ Some r) × (r.step.sides ≡ l ∷ s ∷ []) × IsClosedFor w (result_of b m r l) t × (meets (used_by (result_of b m r l) t) (newly b l.added) ≡ false)
-IsClosedFor w b (both m r l s t v) =
-    (first_rule w b ≡ Some r) × (r.step.sides ≡ l ∷ s ∷ []) × IsClosedFor w (result_of b m r l) t × IsClosedFor w (result_of b m r s) v
+IsClosedFor w = IsClosedBy (Applies w)
+
+-- the tree is one that the search makes: each of its rules is the first that applies to its branch
+abbrev pub IsSearched : Tree → Branch → Turns → Type 0
+IsSearched w = IsClosedBy (λ b r. first_rule w b ≡ Some r)

@@ -1,5 +1,5 @@
 -- Unifiers: maps from metavariables to closed terms under which two terms become equal.
-use Rattle.std.specs.Prelude.{◌≡◌, Bool, true, false, Option, Some, None, List, [], ◌∷◌}
+use Rattle.std.specs.Prelude.{◌≡◌, true, false, Some, None, List}
 use Rattle.core_expr.specs.declared.head.Sym.{Sym}
 use Rattle.core_expr.specs.Tree.{Tree, Parts}
 use Rattle.core_expr.specs.Tree.Tree.{bound, app, node, bind}

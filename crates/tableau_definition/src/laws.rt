@@ -1,5 +1,5 @@
 //! The laws of the written search. The functions do nothing: their contracts are the laws.
-ghost use Rattle.tableau_definition.specs.Laws.{ClosedDerives, ClosedHasTree, TreeRefutes, TreeDerives, AtomsHaveRoom, AnswerUnifies, AnswerIsGeneral, NoneMeansNone, UnifierHasRoom};
+ghost use Rattle.tableau_definition.specs.Laws.{ClosedDerives, ClosedHasTree, TreeRefutes, TreeDerives, AtomsHaveRoom, AnswerUnifies, AnswerIsGeneral, NoneMeansNone, UnifierHasRoom, FirstIsByRank, SearchedIsClosed, RuleTells, RuleIsSided};
 
 /// Where the search ends closed, in either edition, the goal has a derivation from the facts.
 #[tactic(auto, using(crate::proofs::Contracts::closed_derives))]
@@ -7,7 +7,7 @@ pub fn closed_derives()
     ensures { ClosedDerives }
 {}
 
-/// Where the search ends closed, in either edition, there is a tree of turns that is closed for the start branch.
+/// Where the search ends closed, in either edition, there is a tree of turns that the search makes of the start branch.
 #[tactic(auto, using(crate::proofs::Contracts::closed_has_tree))]
 pub fn closed_has_tree()
     ensures { ClosedHasTree }
@@ -52,4 +52,27 @@ pub fn none_means_none()
 #[tactic(auto, using(crate::proofs::Contracts::unifier_has_room))]
 pub fn unifier_has_room()
     ensures { UnifierHasRoom }
+{}
+
+/// A rule that applies names its live entry first. Its rank and case tell on which sides the entry stays live, and
+/// whether its count of instances rises.
+pub fn rule_tells()
+    ensures { RuleTells }
+{}
+
+/// A rule that applies names formulas on the branch, and gives one branch or two, with closed formulas.
+pub fn rule_is_sided()
+    ensures { RuleIsSided }
+{}
+
+/// The first rule is the first that a rank gives. It applies, and there is none exactly where no rule applies.
+#[tactic(auto, using(crate::proofs::Contracts::first_is_by_rank))]
+pub fn first_is_by_rank()
+    ensures { FirstIsByRank }
+{}
+
+/// A tree that the search makes is closed for its branch.
+#[tactic(auto, using(crate::proofs::Contracts::searched_is_closed))]
+pub fn searched_is_closed()
+    ensures { SearchedIsClosed }
 {}
