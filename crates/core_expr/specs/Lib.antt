@@ -1,3 +1,13 @@
 pub mod Tree
 pub mod Put
 pub mod Terms
+pub mod Equal
+pub mod Heads
+pub mod Nodes
+pub mod Flat
+pub mod Rows
+pub mod Spans
+pub mod Places
+pub mod Equality
+pub mod Coding
+pub mod Keys

@@ -1,2 +1,13 @@
 //! The sequent calculus: what a derivation is.
 #![tactic(auto)]
+
+mod build;
+mod laws;
+mod lists;
+mod proof;
+mod row;
+mod schema;
+
+pub use laws::{closed_instances, closedness, flat_example, substitution, weakening};
+pub use lists::{ProofNode, ProofStep};
+pub use proof::SeqProof;

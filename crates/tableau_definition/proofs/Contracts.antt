@@ -1,14 +1,19 @@
 -- The laws that the contracts state, from the lemmas on either edition.
-use Rattle.std.specs.Prelude.{◌≡◌, ℕ, Bool, true, false, List, [], ◌∷◌}
-use Rattle.std.proofs.Common.{sym, subst}
+use Rattle.std.specs.Prelude.{◌≡◌, ℕ, Bool, true, false, Option, Some, None, List, [], ◌∷◌}
+use Rattle.std.proofs.Common.{refl, sym, ◌∙◌, subst}
 use Rattle.core_expr.specs.Tree.{Tree}
 use Rattle.tableau_definition.specs.Search.{search}
 use Rattle.tableau_definition.specs.Search.End.{Closed}
-use Rattle.tableau_definition.specs.Laws.{ClosedDerives, ClosedHasTree, TreeRefutes, TreeDerives}
+use Rattle.tableau_definition.specs.Laws.{ClosedDerives, ClosedHasTree, TreeRefutes, TreeDerives, AtomsHaveRoom, AnswerUnifies, AnswerIsGeneral, NoneMeansNone, UnifierHasRoom}
 use Rattle.tableau_definition.proofs.Sound.{IsClosedEnd, search-sound}
 use Rattle.tableau_definition.proofs.Used.{search2-sound}
 use Rattle.tableau_definition.proofs.Turned.{closed-uses, turns-sound}
 use Rattle.tableau_definition.proofs.Treed.{search-tree}
+use Rattle.tableau_definition.specs.Instances.{Binding, mgu}
+use Rattle.core_expr.specs.declared.head.Sym.{Sym}
+use Rattle.tableau_definition.specs.Unifiers.{IsUnifier, answers, StandAlone}
+use Rattle.tableau_definition.proofs.Unifier.{mgu-unifies, mgu-general, mgu-complete, mgu-room}
+use Rattle.tableau_definition.proofs.Rooms.{signed-room}
 use Rattle.tableau_definition.proofs.Grown.{search-tree1}
 
 ended : (drops : Bool) (symbols : ℕ) (facts : List Tree) (goal : Tree) (limit k : ℕ) → search drops symbols facts goal limit ≡ Closed k → IsClosedEnd (search drops symbols facts goal limit)
@@ -27,3 +32,28 @@ tree_refutes w b t cw cb h = closed-uses w cw b t cb h
 
 pub tree_derives : TreeDerives
 tree_derives symbols facts goal t cf cg h = turns-sound symbols facts goal t cf cg h
+
+pub atoms_have_room : AtomsHaveRoom
+atoms_have_room k room u r = signed-room k room u r
+
+pub answer_unifies : AnswerUnifies
+answer_unifies s t bs h = mgu-unifies s t bs h
+
+pub answer_is_general : AnswerIsGeneral
+answer_is_general s t bs v h k f kf = mgu-general s t bs v h k f kf
+
+pub none_means_none : NoneMeansNone
+none_means_none s t a b = (to, from (mgu s t) refl)
+  where
+    to : mgu s t ≡ None → (v : Sym → Tree) → IsUnifier v s t → ⊥
+    to h v k = let r = mgu-complete s t v a b k in absurd (apart r.0 (sym h ∙ r.1))
+      where
+        apart : (bs : List Binding) → None ≡ Some bs → ⊥
+        apart bs e = cc
+
+    from : (o : Option (List Binding)) → mgu s t ≡ o → ((v : Sym → Tree) → IsUnifier v s t → ⊥) → mgu s t ≡ None
+    from None e h = e
+    from (Some bs) e h = absurd (h (answers bs) (mgu-unifies s t bs e))
+
+pub unifier_has_room : UnifierHasRoom
+unifier_has_room s t room r = mgu-room s t room r

@@ -1,7 +1,8 @@
 pub mod Trace
-pub mod Rows
-pub mod Own
-pub mod Cantor
+pub mod Worked
+pub mod WorkedSets
+pub mod WorkedCases
+pub mod WorkedCantor
 pub mod Rules
 pub mod Natural
 pub mod Lefts
@@ -18,3 +19,11 @@ pub mod Connectives
 pub mod Kept
 pub mod Grown
 pub mod Contracts
+pub mod Truths
+pub mod Saturates
+pub mod Refutes
+pub mod Enough
+pub mod Reducing
+pub mod Decides
+pub mod Rooms
+pub mod Unifier

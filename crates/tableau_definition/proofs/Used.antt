@@ -80,7 +80,7 @@ lists_self : (ns : List ℕ) → lists_equal ns ns ≡ true
 lists_self [] = refl
 lists_self (n ∷ ns) = ap (λ x. elim x [ true ↦ lists_equal ns ns | false ↦ false ]) (nat_self n) ∙ lists_self ns
 
-sym_self : (f : Sym) → same_sym f f ≡ true
+pub sym_self : (f : Sym) → same_sym f f ≡ true
 sym_self f =
     ap (λ x. elim x [ true ↦ elim (nat_eq (kind_code f.kind) (kind_code f.kind)) [ true ↦ nat_eq f.arity f.arity | false ↦ false ] | false ↦ false ]) (nat_self f.number)
     ∙ ap (λ x. elim x [ true ↦ nat_eq f.arity f.arity | false ↦ false ]) (nat_self (kind_code f.kind)) ∙ nat_self f.arity

@@ -5,5 +5,7 @@ pub mod Ranks
 pub mod Instances
 pub mod Search
 pub mod Turns
+pub mod Unifiers
 pub mod Propositional
 pub mod Laws
+pub mod Reduced

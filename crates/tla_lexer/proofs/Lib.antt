@@ -1,0 +1,5 @@
+pub mod Runs
+pub mod Numbers
+pub mod Comments
+pub mod Headers
+pub mod Tokens

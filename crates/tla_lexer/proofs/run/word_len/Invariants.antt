@@ -1,0 +1,10 @@
+use Rattle.std.proofs.Common.{◌≡◌, ◌+◌, ◌-◌, ◌≤◌, length, drop, not, ◌==◌}
+use Rattle.std.specs.List.{prefix_len}
+use Rattle.tla_ast.specs.Word.{is_word_byte}
+use Rattle.tla_lexer.proofs.run.word_len.Given as goal
+
+abbrev pub invariant-loop-end : goal.invariant-loop-end
+invariant-loop-end l = (l.end + prefix_len is_word_byte (drop l.end l.z) ≡ prefix_len is_word_byte l.z) × (l.end ≤ length l.z)
+
+abbrev pub decreases-loop-end : goal.decreases-loop-end
+decreases-loop-end l = length l.z - l.end
