@@ -1,1 +1,12 @@
 pub mod NodeLaws
+pub mod Interned
+pub mod StepLaws
+pub mod Shows
+pub mod RunLaws
+pub mod RuleLaws
+pub mod Marks
+pub mod ValueLaws
+pub mod CloseLaws
+pub mod TurnLaws
+pub mod SearchLaws
+pub mod Prepared

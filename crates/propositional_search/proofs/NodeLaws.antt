@@ -1,8 +1,9 @@
 -- Laws of nodes over a list of trees.
-use Rattle.std.proofs.Common.{◌≡◌, ℕ, zero, suc, ◌+◌, ◌<◌, ◌≤◌, Bool, true, false, List, [], ◌∷◌, ◌++◌, length, get_or, refl, ap, sym, ◌∙◌, arith, rules, subst, inl, inr}
+use Rattle.std.proofs.Common.{◌≡◌, ℕ, ◌+◌, ◌<◌, ◌≤◌, List, [], ◌∷◌, ◌++◌, length, get_or, refl, ap, sym, ◌∙◌, arith, subst, inl, inr}
 use Rattle.std.proofs.lemmas.List.{get_or_append_left, get_or_push, length_push}
 use Rattle.std.proofs.lemmas.Bool.{cases_lt}
-use Rattle.core_expr.specs.Tree.{Tree, true_}
+use Rattle.core_expr.specs.Tree.{Tree, true_, not_}
+use Rattle.core_expr.specs.Tree.Tree.{app}
 use Rattle.propositional_search.specs.declared.node.Node.{Node}
 use Rattle.propositional_search.specs.declared.node.Node.TheVariants.{True, False, Symbol, Not, And, Or, Implies, Iff}
 use Rattle.propositional_search.specs.Nodes.{tree_of, tree_in, trees_from, trees_of, Below, IsDistinct, IsBank}
@@ -40,17 +41,21 @@ pub tree_in-extend : (ts us : List Tree) (n : Node) → Below (length ts) n → 
 tree_in-extend ts us True b = refl
 tree_in-extend ts us False b = refl
 tree_in-extend ts us (Symbol s) b = refl
-tree_in-extend ts us (Not a) b = rw tree_of-extend ts us a b
+tree_in-extend ts us (Not a) b = ap (λ x. not_ x) (tree_of-extend ts us a b)
 tree_in-extend ts us (And a c) b = rw (tree_of-extend ts us a b.0, tree_of-extend ts us c b.1)
 tree_in-extend ts us (Or a c) b = rw (tree_of-extend ts us a b.0, tree_of-extend ts us c b.1)
 tree_in-extend ts us (Implies a c) b = rw (tree_of-extend ts us a b.0, tree_of-extend ts us c b.1)
 tree_in-extend ts us (Iff a c) b = rw (tree_of-extend ts us a b.0, tree_of-extend ts us c b.1)
 
+abbrev number_of : Tree → ℕ
+number_of (app f ps) = f.number
+number_of _ = 0
+
 -- the node of a tree is known by the tree
 pub same_nodes : (ts : List Tree) (m n : Node) → IsDistinct ts → Below (length ts) m → Below (length ts) n → tree_in ts m ≡ tree_in ts n → m ≡ n
 same_nodes ts True True d a b e = refl
 same_nodes ts False False d a b e = refl
-same_nodes ts (Symbol s) (Symbol t) d a b e = let k : s ≡ t = cc in ap Symbol k
+same_nodes ts (Symbol s) (Symbol t) d a b e = ap Symbol (ap number_of e)
 same_nodes ts (Not x) (Not y) d a b e = let k : tree_of ts x ≡ tree_of ts y = cc in ap Not (d x y a b k)
 same_nodes ts (And x u) (And y v) d a b e =
     let k : tree_of ts x ≡ tree_of ts y = cc in

@@ -1,5 +1,5 @@
 -- Nodes, and the trees that they stand for.
-use Rattle.std.specs.Prelude.{◌≡◌, ℕ, ◌<◌, List, [], ◌∷◌, ◌++◌, length}
+use Rattle.std.specs.Prelude.{◌≡◌, ◌⊎◌, ℕ, ◌<◌, List, [], ◌∷◌, ◌++◌, length}
 use Rattle.std.proofs.Common.{get_or}
 use Rattle.core_expr.specs.declared.head.SymKind.TheVariants.{Canon}
 use Rattle.core_expr.specs.Tree.{Tree, true_, false_, not_, and_, or_, imp_, iff_}
@@ -11,6 +11,10 @@ use Rattle.propositional_search.specs.declared.node.Node.TheVariants.{True, Fals
 -- the symbol of a canonical form with this number, without arguments
 abbrev pub symbol_ : ℕ → Tree
 symbol_ n = app (record { kind = Canon; number = n; arity = 0 }) end
+
+-- the conjunction with a symbol
+abbrev pub and_symbol : Tree → ℕ → Tree
+and_symbol t n = and_ t (symbol_ n)
 
 -- the tree at a place of a list
 abbrev pub tree_of : List Tree → ℕ → Tree
@@ -27,6 +31,7 @@ tree_in ts (Or a b) = or_ (tree_of ts a) (tree_of ts b)
 tree_in ts (Implies a b) = imp_ (tree_of ts a) (tree_of ts b)
 tree_in ts (Iff a b) = iff_ (tree_of ts a) (tree_of ts b)
 
+-- the trees of the nodes behind those of the nodes before them
 abbrev pub trees_from : List Tree → List Node → List Tree
 trees_from ts [] = ts
 trees_from ts (n ∷ ns) = trees_from (ts ++ tree_in ts n ∷ []) ns
@@ -65,10 +70,18 @@ pub record IsBank (ns : List Node) (ts : List Tree) : Type 0 where
 unfoldable pub IsArena : List Node → Type 0
 IsArena ns = IsBank ns (trees_of ns)
 
--- each place keeps its formula
+-- the places of the old list keep their formulas
+abbrev pub Keeps : List Node → List Node → Type 0
+Keeps old new = (i : ℕ) → i < length old → tree_at new i ≡ tree_at old i
+
+-- the same, where they are places of the new list
 unfoldable pub Extends : List Node → List Node → Type 0
 Extends old new = (i : ℕ) → i < length old → (i < length new) × (tree_at new i ≡ tree_at old i)
 
 -- a place of the new list, which has the tree
 unfoldable pub Adds : List Node → List Node → ℕ → Tree → Type 0
 Adds old new i t = (i < length new) × (tree_at new i ≡ t)
+
+-- the node is the last of the new list, or was there
+unfoldable pub Grows : List Node → List Node → Node → Type 0
+Grows old new n = (new ≡ old) ⊎ (new ≡ old ++ n ∷ [])

@@ -1,10 +1,26 @@
 //! The written search for the formulas built from TRUE, FALSE and symbols without arguments by the five connectives.
 //!
-//! To the layers above this crate promises that `decide` answers the end of the written search's first edition.
+//! To the layer above this crate promises:
+//! - `Formulas` keeps formulas by places, equal formulas once. Each call answers the place of the formula that it names,
+//!   and no call changes the formula of an earlier place.
+//! - `decide` answers the end of the written search, in its first edition, whatever the limit of turns: proved,
+//!   saturated or spent, with the same number of turns, and for a saturated branch the values of the symbols on it.
+//!   Want of memory is its only other answer.
+//!
+//! A turn costs time linear in the branch and in the number of formulas; nothing recurses on the depth of a formula.
 #![tactic(auto)]
 
+mod branch;
+mod choose;
 mod formulas;
 mod node;
+mod rules;
+mod search;
+mod values;
 
 pub use formulas::Formulas;
 pub use node::Node;
+pub use search::{Answer, decide};
+
+#[cfg(test)]
+mod tests;
