@@ -1,3 +1,4 @@
 pub mod Place
 pub mod Fault
 pub mod Word
+pub mod Listing

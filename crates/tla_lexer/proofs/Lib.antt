@@ -3,3 +3,5 @@ pub mod Numbers
 pub mod Comments
 pub mod Headers
 pub mod Tokens
+pub mod Fits
+pub mod Laid

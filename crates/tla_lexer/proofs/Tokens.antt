@@ -1,17 +1,14 @@
 -- The tokens at a place of the bytes.
-use Rattle.std.proofs.Common.{◌≡◌, ℕ, zero, suc, ◌+◌, ◌-◌, ◌*◌, ◌<◌, ◌≤◌, Bool, true, false, cond, nat_lt, List, [], ◌∷◌, ◌++◌, length, take, drop, Option, Some, None, Result, Ok, Err, refl, sym, subst, ap, ◌∙◌, arith, length-drop, length-take, append_assoc}
+use Rattle.std.proofs.Common.{◌≡◌, ℕ, zero, suc, ◌+◌, ◌-◌, ◌<◌, ◌≤◌, List, [], ◌∷◌, ◌++◌, length, take, drop, Ok, Err, refl, sym, subst, ap, ◌∙◌, arith, length-drop, length-take, append_assoc}
 use Rattle.std.proofs.lemmas.List.{take_rest, drop-drop}
 use Rattle.std.proofs.lemmas.Bool.{lt-ltb, le-ltb, cond-true, cond-false}
 use Rattle.tla_ast.specs.declared.place.Place.{Place}
 use Rattle.tla_ast.specs.declared.token.Token.{Token}
-use Rattle.tla_ast.specs.declared.token.Tokens.{Tokens}
 use Rattle.tla_ast.specs.declared.token.Tok.{Tok}
 use Rattle.tla_ast.specs.declared.token.Tok.TheVariants as tok
 use Rattle.tla_ast.specs.declared.fault.Kind.{Kind}
-use Rattle.tla_ast.specs.declared.fault.Kind.TheVariants.{TooLong, NoModule}
-use Rattle.tla_ast.specs.declared.fault.LexFault.{LexFault}
+use Rattle.tla_ast.specs.declared.fault.Kind.TheVariants.{TooLong}
 use Rattle.tla_ast.specs.declared.fault.LexFault.TheVariants as fault
-use Rattle.tla_lexer.specs.declared.piece.Piece.{Piece}
 use Rattle.tla_lexer.specs.declared.piece.Piece.TheVariants as piece
 use Rattle.tla_lexer.specs.declared.header.Found.{Found}
 use Rattle.tla_lexer.specs.Signs.{Text}

@@ -1,5 +1,5 @@
 -- The header of a module.
-use Rattle.std.specs.Prelude.{ℕ, suc, ◌+◌, Bool, not, ◌&&◌, ◌||◌, if◌then◌else◌, ◌==◌, nat_eq, nat_lt, nat_le, List, [], ◌∷◌, length, take, drop, Option, Some, None, codes}
+use Rattle.std.specs.Prelude.{ℕ, ◌+◌, not, ◌||◌, if◌then◌else◌, ◌==◌, nat_eq, nat_lt, [], ◌∷◌, take, drop, Option, Some, None, codes}
 use Rattle.std.specs.List.{starts_with}
 use Rattle.tla_ast.specs.Word.{is_identifier}
 use Rattle.tla_lexer.specs.declared.header.Header.{Header}

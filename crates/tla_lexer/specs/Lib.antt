@@ -6,3 +6,4 @@ pub mod Strings
 pub mod Pieces
 pub mod Headers
 pub mod Tokens
+pub mod Law

@@ -37,14 +37,15 @@ behind_value v n (closed w m) = closed (v ++ w) (n + m)
 behind_value v n unclosed = unclosed
 behind_value v n (wrong m) = wrong (n + m)
 
+-- how a string ends behind a byte with this move, by how the rest ends with a backslash just read and without one
+abbrev pub by_move : Move → (Bool → Quoted) → Quoted
+by_move (Holds c) more = behind_value (c ∷ []) 1 (more false)
+by_move Escapes more = behind_value [] 1 (more true)
+by_move Closes more = closed [] 1
+by_move Breaks more = unclosed
+by_move Wrong more = wrong 0
+
 -- what follows the `"` of a string, where the flag says whether a backslash has just been read
 abbrev pub string_from : Bool → List ℕ → Quoted
 string_from escaped [] = unclosed
 string_from escaped (b ∷ z) = by_move (move_of escaped b) (λ e. string_from e z)
-  where
-    by_move : Move → (Bool → Quoted) → Quoted
-    by_move (Holds c) more = behind_value (c ∷ []) 1 (more false)
-    by_move Escapes more = behind_value [] 1 (more true)
-    by_move Closes more = closed [] 1
-    by_move Breaks more = unclosed
-    by_move Wrong more = wrong 0

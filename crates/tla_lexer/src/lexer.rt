@@ -1,6 +1,7 @@
 //! All tokens of a module.
 
-ghost use Rattle.std.specs.Prelude.{◌≡◌, ◌+◌, ◌*◌, ◌<◌, ◌≤◌, ◌^◌, length, drop};
+ghost use Rattle.std.specs.Prelude.{◌≡◌, ◌+◌, ◌*◌, ◌<◌, ◌≤◌, ◌^◌, length, drop, IfOk};
+ghost use Rattle.tla_ast.specs.Listing.{IsTokenList};
 ghost use Rattle.tla_lexer.specs.Tokens as spec;
 
 use crate::header::{Found, find};
@@ -65,9 +66,11 @@ fn tokens_behind(
 
 /// The tokens of a module: its header, and what stands behind it up to the end token. The fault is the first that applies:
 /// `TooLong` at 1:1 for more than 1048576 bytes, `NoModule` at 1:1 where no header stands anywhere, and else the fault of the
-/// least place. `Memory` only where the allocator refuses memory.
+/// least place. `Memory` only where the allocator refuses memory. The places of the tokens rise by line and then column, and
+/// the last token and no other is `End` or `Eof`, as the readers ask.
 pub fn lex(alloc: Global, bytes: &[u8]) -> Result<Tokens, LexFault>
-    ensures { spec.Gives result (spec.tokens bytes.now) }
+    ensures gives { spec.Gives result (spec.tokens bytes.now) }
+    ensures list { IfOk result (λ ts. IsTokenList ts.list) }
 {
     if LIMIT < bytes.len() {
         return Err(LexFault::At {

@@ -1,6 +1,6 @@
-use Rattle.std.proofs.Common.{◌≡◌, ◌+◌, ◌<◌, true, false, get_or, length, sym, ap, ◌∙◌, arith}
+use Rattle.std.proofs.Common.{sym, ap, ◌∙◌, arith}
 use Rattle.std.proofs.lemmas.Bool.{ne_eqb, cond-false}
-use Rattle.tla_lexer.specs.Comments.{opens, closes, longer, rest_len}
+use Rattle.tla_lexer.specs.Comments.{longer}
 use Rattle.tla_lexer.proofs.Comments.{rest-opens, rest-closes, rest-passes, rest-end, longer-longer}
 use Rattle.tla_lexer.proofs.comment.rest_len.Goals as goal
 

@@ -1,4 +1,4 @@
-use Rattle.std.proofs.Common.{◌≡◌, ◌+◌, ◌-◌, ◌≤◌, length, drop}
+use Rattle.std.proofs.Common.{◌≡◌, ◌-◌, ◌≤◌, length, drop}
 use Rattle.tla_lexer.specs.Comments.{rest_len, longer}
 use Rattle.tla_lexer.proofs.comment.rest_len.Given as goal
 

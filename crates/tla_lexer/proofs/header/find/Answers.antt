@@ -1,4 +1,4 @@
-use Rattle.std.proofs.Common.{◌≡◌, ◌+◌, ◌≤◌, length, sym, ◌∙◌, arith}
+use Rattle.std.proofs.Common.{sym, ◌∙◌, arith}
 use Rattle.std.proofs.lemmas.Bool.{eqb-true}
 use Rattle.tla_lexer.proofs.Headers.{find-here, find-later, none-next, find-end, at-rest}
 use Rattle.tla_lexer.proofs.header.find.Goals as goal

@@ -1,6 +1,6 @@
-use Rattle.std.proofs.Common.{◌≡◌, ◌+◌, ◌-◌, ◌<◌, ◌≤◌, length, take, drop, sym, ap, ◌∙◌, refl, arith, length-drop, ℕ, Ok}
+use Rattle.std.proofs.Common.{◌+◌, ◌-◌, length, take, drop, sym, ap, ◌∙◌, arith, Ok}
 use Rattle.tla_lexer.specs.Tokens.{tokens_from, behind}
-use Rattle.tla_lexer.specs.Pieces.{piece_at, Within}
+use Rattle.tla_lexer.specs.Pieces.{Within}
 use Rattle.tla_lexer.specs.declared.piece.Piece.TheVariants as piece
 use Rattle.tla_lexer.proofs.Tokens.{room, gap-at, token-at, end-at, fault-at, behind-front, part-len}
 use Rattle.tla_lexer.proofs.lexer.tokens_behind.Goals as goal

@@ -1,6 +1,5 @@
-use Rattle.std.proofs.Common.{◌≡◌, ◌+◌, ◌-◌, ◌∙◌, ap, sym, take, drop, arith, ℕ}
-use Rattle.tla_lexer.specs.Place.{after, first}
-use Rattle.tla_lexer.specs.Tokens.{Gives, tokens_of}
+use Rattle.std.proofs.Common.{◌≡◌, ◌+◌, ◌-◌, ◌∙◌, ap, take, drop, arith}
+use Rattle.tla_lexer.specs.Place.{after}
 use Rattle.tla_lexer.proofs.Tokens.{tokens_of-is}
 use Rattle.tla_lexer.proofs.lexer.tokens_of.Goals as goal
 

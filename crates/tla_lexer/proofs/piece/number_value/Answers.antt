@@ -1,8 +1,8 @@
-use Rattle.std.proofs.Common.{◌≡◌, ◌+◌, ◌*◌, ◌-◌, ◌^◌, ◌<◌, ◌≤◌, true, false, get_or, length, take, Some, sym, ap, ◌∙◌, arith}
+use Rattle.std.proofs.Common.{◌≡◌, ◌+◌, ◌^◌, true, take, Some, sym, ap, ◌∙◌, arith}
 use Rattle.std.proofs.lemmas.List.{take_all}
 use Rattle.std.proofs.lemmas.Bool.{lt-ltb, cond-true, cond-false}
 use Rattle.tla_lexer.specs.Pieces.{value_of, is_small}
-use Rattle.tla_lexer.proofs.Numbers.{value-more, value-take, not_small}
+use Rattle.tla_lexer.proofs.Numbers.{value-more, not_small}
 use Rattle.tla_lexer.proofs.piece.number_value.Goals as goal
 
 pub returns-in_default : goal.returns-in_default

@@ -1,5 +1,4 @@
-use Rattle.std.proofs.Common.{◌≡◌, take, ℕ, List, true, drop}
-use Rattle.std.specs.List.{list_all}
+use Rattle.std.proofs.Common.{drop}
 use Rattle.std.specs.Char.{is_ascii_digit}
 use Rattle.tla_lexer.proofs.Runs.{all-prefix}
 use Rattle.tla_lexer.proofs.piece.step.Goals as goal
