@@ -6,4 +6,6 @@ pub mod SpanLaws
 pub mod BuildLaws
 pub mod PlaceLaws
 pub mod Fed
+pub mod RenameLaws
 pub mod Shown
+pub mod IndexLaws

@@ -293,3 +293,9 @@ part_tree t i k j h l e =
         p.rows_are ∙ ap (λ l. p.before ++ (l ++ p.after)) q.rows_are ∙ ap (λ l. p.before ++ l) (append_assoc q.before (rows_at q.depth (get_or ts k true_) ++ q.after) p.after ∙ ap (λ l. q.before ++ l) (append_assoc (rows_at q.depth (get_or ts k true_)) q.after p.after)) ∙ sym (append_assoc p.before q.before (rows_at q.depth (get_or ts k true_) ++ (q.after ++ p.after)))
         in
         tree_of-prefix (p.before ++ q.before) q.depth (get_or ts k true_) (q.after ++ p.after) (rows_of t) j a (omega (arith, c, z, s, f, g, b, e))
+
+pub last_root : (t : Tree) → (0 < length (rows_of t)) × (subtree t (length (rows_of t) - 1) ≡ t)
+last_root t =
+    let l = length-rows_at 0 t in
+    let n = nodes-subtrees t in
+    (omega (arith, l, n), tree_of-prefix [] 0 t [] (rows_of t) (length (rows_of t) - 1) (sym (append-nil (rows_at 0 t))) (omega (arith, l, n)))

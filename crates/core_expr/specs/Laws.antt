@@ -1,12 +1,12 @@
 -- Laws of expressions, as statements.
-use Rattle.std.specs.Prelude.{◌≡◌, ◌↔◌, ℕ, true, IsTrue, Option, List, length}
+use Rattle.std.specs.Prelude.{◌≡◌, ◌↔◌, ℕ, ◌<◌, ◌-◌, true, IsTrue, Option, List, length}
 use Rattle.core_expr.specs.declared.head.Sym.{Sym}
 use Rattle.core_expr.specs.Tree.{Tree, Parts}
 use Rattle.core_expr.specs.Put.{shift, put, inst, sub, IsScoped}
 use Rattle.core_expr.specs.Terms.{same, is_scoped}
 use Rattle.core_expr.specs.Heads.{fits, make, subtrees, kind_number, kind_symbol, parts_of, are_well_formed, IsWellFormed}
 use Rattle.core_expr.specs.Flat.{rows_of, tree_of}
-use Rattle.core_expr.specs.Places.{kind_of, root_numbers}
+use Rattle.core_expr.specs.Places.{kind_of, root_numbers, subtree}
 
 -- putting in and substituting for symbols commute
 abbrev pub PuttingInCommutes : Type 0
@@ -62,3 +62,7 @@ ShownMakes = (t : Tree) → make (kind_number (kind_of t)) (kind_symbol (kind_of
 -- what a well-formed tree shows fits the table
 abbrev pub ShownFits : Type 0
 ShownFits = (t : Tree) → IsWellFormed t → IsTrue (fits (kind_number (kind_of t)) (kind_symbol (kind_of t)) (root_numbers t) (length (subtrees t)))
+
+-- the last node is the root of the whole
+abbrev pub LastIsRoot : Type 0
+LastIsRoot = (t : Tree) → (0 < length (rows_of t)) × (subtree t (length (rows_of t) - 1) ≡ t)

@@ -11,4 +11,6 @@ pub mod Places
 pub mod Equality
 pub mod Coding
 pub mod Keys
+pub mod Rename
 pub mod Laws
+pub mod Index

@@ -16,6 +16,7 @@ mod forest;
 mod head;
 mod kinds;
 mod memory;
+mod rename;
 mod row;
 mod rows;
 mod spans;

@@ -33,7 +33,7 @@ pub(crate) fn same_rows(a: &[Row], b: &[Row]) -> bool
 }
 
 /// The node, under `depth` binders.
-fn copy_row(alloc: Global, row: &Row, depth: u64) -> Result<Row, Memory>
+pub(crate) fn copy_row(alloc: Global, row: &Row, depth: u64) -> Result<Row, Memory>
     ensures { IfOk result (λ r. r ≡ record row.now { depth = depth }) }
 {
     let numbers = Items::from_slice(alloc, row.numbers.as_slice())?;
@@ -64,7 +64,7 @@ pub(crate) fn raise(
 }
 
 /// The first of the numbers, 0 where there is none.
-fn first_number(numbers: &[u64]) -> u64
+pub(crate) fn first_number(numbers: &[u64]) -> u64
     ensures { result ≡ first numbers.now }
 {
     match numbers.first() {
@@ -74,7 +74,7 @@ fn first_number(numbers: &[u64]) -> u64
 }
 
 /// Whether the node is a variable that no binder above it binds.
-fn is_loose(row: &Row) -> bool
+pub(crate) fn is_loose(row: &Row) -> bool
     ensures { result ≡ is_loose_row row.now.kind row.now }
 {
     match row.kind {

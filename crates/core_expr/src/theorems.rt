@@ -1,5 +1,5 @@
 //! Laws of expressions, each the contract of a function that does nothing.
-ghost use Rattle.core_expr.specs.Laws.{PuttingInCommutes, ClosedStays, SubstitutionKeepsScopes, PuttingInScopes, PuttingInKeepsForm, NodesGiveBack, SameIsEqual, ScopedIsTested, MadeShows, MadeIsFormed, ShownMakes, ShownFits};
+ghost use Rattle.core_expr.specs.Laws.{PuttingInCommutes, ClosedStays, SubstitutionKeepsScopes, PuttingInScopes, PuttingInKeepsForm, NodesGiveBack, SameIsEqual, ScopedIsTested, MadeShows, MadeIsFormed, ShownMakes, ShownFits, LastIsRoot};
 
 /// Putting in and substituting for symbols commute.
 pub fn putting_in_commutes()
@@ -59,4 +59,9 @@ pub fn shown_makes()
 /// What a well-formed tree shows fits the table of heads.
 pub fn shown_fits()
     ensures { ShownFits }
+{}
+
+/// The last node is the root of the whole.
+pub fn last_is_root()
+    ensures { LastIsRoot }
 {}

@@ -31,6 +31,7 @@ tree_in ts (Or a b) = or_ (tree_of ts a) (tree_of ts b)
 tree_in ts (Implies a b) = imp_ (tree_of ts a) (tree_of ts b)
 tree_in ts (Iff a b) = iff_ (tree_of ts a) (tree_of ts b)
 
+-- the trees of the nodes behind those of the nodes before them
 abbrev pub trees_from : List Tree → List Node → List Tree
 trees_from ts [] = ts
 trees_from ts (n ∷ ns) = trees_from (ts ++ tree_in ts n ∷ []) ns

@@ -34,5 +34,5 @@ pub flat_example : FlatExample
 unfolding written proof_of readings
 flat_example = (
   (refl, allowed_12, (tt, ((tt, (tt, tt)), tt), inl refl, (((tt, tt), (tt, ((tt, (tt, tt)), tt)), (inl refl, inl refl), tt), tt))),
-  (refl, allowed_10, λ h. not_or h.2)
+  (refl, allowed_10, λ h. not_or h.2),
 )

@@ -145,5 +145,3 @@ function_equality_closed s d t e hs hd ht he = rw (unmoved s hs) (if_closed-some
 
 pub function_equality_open : (s d t e : Tree) → ¬ (IsScoped 0 s × IsScoped 1 d × IsScoped 0 t × IsScoped 1 e) → if_closed (row17 0 (s ∷ d ∷ t ∷ e ∷ [])) ≡ None
 function_equality_open s d t e n = if_closed-none (iff_ (eq_ (fun_ s d) (fun_ t e)) (and_ (eq_ s t) (all_ (imp_ (in_ (bound 0) (shift 0 1 s)) (eq_ d e))))) (λ h. n (h.0.0.0.0, h.0.0.1, h.0.1.0.0.0, h.0.1.0.1))
-
-

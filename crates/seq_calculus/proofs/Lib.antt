@@ -9,3 +9,4 @@ pub mod Listed
 pub mod Tuples
 pub mod Lone
 pub mod Dispatch
+pub mod Counted

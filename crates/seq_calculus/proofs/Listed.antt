@@ -2,7 +2,7 @@
 use Rattle.std.specs.Prelude.{◌≡◌, ℕ, zero, suc, ◌+◌, ◌-◌, ◌<◌, ◌≤◌, Bool, true, false, IsTrue, ◌↔◌, cond, nat_le, nat_eq, Option, Some, None, List, [], ◌∷◌, ◌++◌, length, take, drop, slice_get}
 use Rattle.std.proofs.Common.{refl, ap, sym, ◌∙◌, arith, subst, get_or}
 use Rattle.std.proofs.lemmas.Bool.{false≢true}
-use Rattle.std.proofs.lemmas.List.{take_more, take_all}
+use Rattle.std.proofs.lemmas.List.{take_more, take_all, length-drop}
 use Rattle.core_expr.specs.Tree.{Tree, eq_}
 use Rattle.core_expr.specs.Put.{IsScoped}
 use Rattle.seq_calculus.specs.Calculus.{AllClosed}
@@ -18,6 +18,10 @@ yes_from b P w e = w.0 e
 -- one item more
 pub take_step : (xs : List Tree) (i : ℕ) (x : Tree) → i < length xs → x ≡ get_or xs i x → take (i + 1) xs ≡ take i xs ++ x ∷ []
 take_step xs i x h e = take_more xs i x h ∙ ap (λ (y : Tree). take i xs ++ y ∷ []) (sym e)
+
+-- what follows the first n
+pub slice_rest : (n : ℕ) (ps : List Tree) → take (length ps - n) (drop n ps) ≡ drop n ps
+slice_rest n ps = take_all (length ps - n) (drop n ps) (omega (arith, length-drop n ps))
 
 AllClosed-more : (xs : List Tree) (x : Tree) → AllClosed xs → IsScoped 0 x → AllClosed (xs ++ x ∷ [])
 AllClosed-more [] x h k = (k, tt)

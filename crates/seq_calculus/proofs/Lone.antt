@@ -14,7 +14,7 @@ use Rattle.core_expr.specs.Tree.Parts.{end, part}
 use Rattle.core_expr.specs.Terms.{head_code, lists_equal}
 use Rattle.core_expr.specs.Flat.{row, rows_at, all_rows, rows_of, row_at}
 use Rattle.core_expr.specs.Heads.{kind_number, table_numbers, IsWellFormed}
-use Rattle.core_expr.proofs.Equal.{lists-same}
+use Rattle.core_expr.specs.Equal.{lists-same, lists-refl}
 use Rattle.seq_calculus.specs.Schemas.{are_apart}
 use Rattle.seq_calculus.specs.Literals.{lone_of, lone_head, are_heads_literal}
 
@@ -98,13 +98,6 @@ not-equal xs ys n = go (lists_equal xs ys) refl
     go true e = absurd (n (lists-same xs ys e))
     go false e = refl
 
-lists-self : (xs : List ℕ) → lists_equal xs xs ≡ true
-lists-self [] = refl
-lists-self (x ∷ xs) = rw (nat-self x) (lists-self xs)
-  where
-    nat-self : (x : ℕ) → nat_eq x x ≡ true
-    nat-self x = grind (arith, nat_tests)
-
 apart-numbers : (a b c d : ℕ) → ¬ (num_ a b ≡ num_ c d) → are_apart (num_ a b) (num_ c d) ≡ true
 apart-numbers a b c d n = not-equal (a ∷ b ∷ []) (c ∷ d ∷ []) (λ e. n (ap (λ (l : List ℕ). node Num l end) e))
 
@@ -134,8 +127,8 @@ apart_true l m w v e n = go (literal-heads (lone_head l) (lone_head m) e)
         (λ i. are_apart (a.1 i) (b.1 i)) ∙ apart-strings a.0 b.0 (λ q. n (a.1 ∙ q ∙ sym b.1))
 
 apart-itself : (t : Tree) → are_apart t t ≡ true → ⊥
-apart-itself (num_ a b) e = false≢true (sym (ap not (lists-self (a ∷ b ∷ []))) ∙ e)
-apart-itself (str_ s) e = false≢true (sym (ap not (lists-self s)) ∙ e)
+apart-itself (num_ a b) e = false≢true (sym (ap not (lists-refl (a ∷ b ∷ []))) ∙ e)
+apart-itself (str_ s) e = false≢true (sym (ap not (lists-refl s)) ∙ e)
 apart-itself _ e = cc
 
 -- and what is apart is such
@@ -154,3 +147,6 @@ apart_final l m false w v e h = (λ k. apart_true l m w v e (λ q. absurd (false
 
 pub apart_not : (l m : Tree) → are_heads_literal (lone_head l) (lone_head m) ≡ false → IsTrue false ↔ (are_apart l m ≡ true)
 apart_not l m e = (λ k. absurd (false≢true k), λ k. absurd (false≢true (sym e ∙ apart_heads l m k)))
+
+pub heads_are : (l m : Tree) (h k : ℕ) (b v : Bool) → h ≡ lone_head l → k ≡ lone_head m → b ≡ are_heads_literal h k → b ≡ v → are_heads_literal (lone_head l) (lone_head m) ≡ v
+heads_are l m h k b v p q e f = (λ i. are_heads_literal (sym p i) (sym q i)) ∙ sym e ∙ f

@@ -166,8 +166,12 @@ row22-none false i e = refl
 pub literals_closed : (l m : Tree) → are_apart l m ≡ true → if_closed (row22 0 (l ∷ m ∷ [])) ≡ Some (not_ (eq_ l m))
 literals_closed l m e = let k : IsScoped 0 l × IsScoped 0 m = scoped-apart l m e in row22-case (are_apart l m) (not_ (eq_ l m)) ((k.0, (k.1, tt)), tt) e
 
-pub literals_open : (l m : Tree) → are_apart l m ≡ false → if_closed (row22 0 (l ∷ m ∷ [])) ≡ None
-literals_open l m e = row22-none (are_apart l m) (not_ (eq_ l m)) e
+false-from : (b : Bool) → ¬ (b ≡ true) → b ≡ false
+false-from true n = absurd (n refl)
+false-from false n = refl
+
+pub literals_open : (l m : Tree) → ¬ (are_apart l m ≡ true) → if_closed (row22 0 (l ∷ m ∷ [])) ≡ None
+literals_open l m n = row22-none (are_apart l m) (not_ (eq_ l m)) (false-from (are_apart l m) n)
 
 -- the parameters of a set whose elements are listed: the term, and the elements
 pub enumeration_made : (es : List Tree) (x : Tree) → 0 < length es → x ≡ get_or es 0 x → AllClosed es → if_closed (row1 0 es) ≡ Some (iff_ (in_ x (enum_ (parts_of (drop 1 es)))) (join (λ a b. or_ a b) false_ (equals_each x (drop 1 es))))

@@ -5,9 +5,8 @@ ghost use Rattle.core_expr.specs.Tree.Parts.{end, part};
 ghost use Rattle.core_expr.specs.Terms.{head_code, binder_code};
 ghost use Rattle.core_expr.specs.Heads.{head_arity, binder_arity, plain_fits, parts_of};
 
-use std::alloc::Global;
-
 use core_expr::{Binder, Expr, Head, Memory};
+use std::alloc::Global;
 
 /// The number of a head that binds nothing.
 fn head_number(head: Head) -> u64
@@ -139,7 +138,13 @@ pub(crate) fn quantified(alloc: Global, binder: Binder, body: Expr) -> Result<Ex
     requires { binder_arity binder ≡ 1 }
     ensures { IfOk result (λ e. e ≡ bind binder end body) }
 {
-    Expr::build(alloc, binder_number(binder), None, &[], list_of_one(alloc, body)?)
+    Expr::build(
+        alloc,
+        binder_number(binder),
+        None,
+        &[],
+        list_of_one(alloc, body)?,
+    )
 }
 
 /// The binder over this set and body.
@@ -147,7 +152,13 @@ pub(crate) fn ranged(alloc: Global, binder: Binder, set: Expr, body: Expr) -> Re
     requires { binder_arity binder ≡ 2 }
     ensures { IfOk result (λ e. e ≡ bind binder (part set end) body) }
 {
-    Expr::build(alloc, binder_number(binder), None, &[], list_of_two(alloc, set, body)?)
+    Expr::build(
+        alloc,
+        binder_number(binder),
+        None,
+        &[],
+        list_of_two(alloc, set, body)?,
+    )
 }
 
 /// The variable of the innermost binder.
@@ -161,5 +172,11 @@ pub(crate) fn innermost(alloc: Global) -> Result<Expr, Memory>
 pub(crate) fn numeral(alloc: Global, value: u64) -> Result<Expr, Memory>
     ensures { IfOk result (λ e. e ≡ num_ 0 value) }
 {
-    Expr::build(alloc, head_number(Head::Num), None, &[0, value], Vec::new(alloc))
+    Expr::build(
+        alloc,
+        head_number(Head::Num),
+        None,
+        &[0, value],
+        Vec::new(alloc),
+    )
 }

@@ -3,17 +3,15 @@ ghost use Rattle.core_expr.specs.Put.{IsScoped};
 ghost use Rattle.seq_calculus.specs.Schemas.{if_closed, closed_instance, row17, row22};
 ghost use Rattle.seq_calculus.specs.Families.{row_of, row_of_one, row_of_two, row_of_three, depth_of_one, depth_of_two, depth_of_three};
 
-use std::alloc::Global;
-
-use core_expr::{Expr, Head, Memory};
-
-use crate::row::{
-    application, boolean, choice, difference, domain, except, extensionality, filter, function_equality,
-    function_set, image, joined, otherwise, power, subset, then, union,
-};
 use crate::literal::literals;
+use crate::row::{
+    application, boolean, choice, difference, domain, except, extensionality, filter,
+    function_equality, function_set, image, joined, otherwise, power, subset, then, union,
+};
 use crate::schema::{OfOne, OfThree, OfTwo, Schema, schema_at};
 use crate::tuple::{enumeration, tuple_entry, tuple_equality};
+use core_expr::{Expr, Head, Memory};
+use std::alloc::Global;
 
 /// How many loose variables the parameter of such a schema may have.
 fn one_depth(schema: OfOne) -> u64

@@ -4,12 +4,10 @@ ghost use Rattle.core_expr.specs.Heads.{IsWellFormed};
 ghost use Rattle.seq_calculus.specs.Literals.{lone_head, are_heads_literal};
 ghost use Rattle.seq_calculus.specs.Schemas.{are_apart, if_closed, row22};
 
-use std::alloc::Global;
-
-use core_expr::{Expr, Head, Memory};
-
 use crate::build::one;
 use crate::row::equation;
+use core_expr::{Expr, Head, Memory};
+use std::alloc::Global;
 
 /// The head number of an expression that is one node, 0 where there are more.
 fn lone_head(e: &Expr) -> u64

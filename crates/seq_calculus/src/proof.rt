@@ -1,9 +1,8 @@
 ghost use Rattle.std.specs.Prelude.{◌≡◌};
 ghost use Rattle.seq_calculus.specs.Lists.{AreLists};
 
-use std::marker::Model;
-
 use crate::lists::{ProofNode, ProofStep};
+use std::marker::Model;
 
 /// A proof, kept as its table of expressions and its steps. The last step is the root.
 #[derive(Drop)]

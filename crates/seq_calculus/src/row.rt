@@ -5,11 +5,9 @@ ghost use Rattle.core_expr.specs.Tree.Parts.{end, part};
 ghost use Rattle.core_expr.specs.Put.{inst, IsScoped};
 ghost use Rattle.core_expr.specs.Heads.{plain_fits};
 
-use std::alloc::Global;
-
-use core_expr::{Binder, Expr, Head, Memory};
-
 use crate::build::{innermost, leaf, one, quantified, ranged, three, two};
+use core_expr::{Binder, Expr, Head, Memory};
+use std::alloc::Global;
 
 /// `a = b`, of copies.
 pub(crate) fn equation(alloc: Global, a: &Expr, b: &Expr) -> Result<Expr, Memory>
@@ -53,7 +51,12 @@ pub(crate) fn boolean(alloc: Global, t: &Expr) -> Result<Expr, Memory>
 {
     let yes = two(alloc, Head::Eq, t.copy(alloc)?, leaf(alloc, Head::True)?)?;
     let no = two(alloc, Head::Eq, t.copy(alloc)?, leaf(alloc, Head::False)?)?;
-    membership(alloc, t, leaf(alloc, Head::Boolean)?, two(alloc, Head::Or, yes, no)?)
+    membership(
+        alloc,
+        t,
+        leaf(alloc, Head::Boolean)?,
+        two(alloc, Head::Or, yes, no)?,
+    )
 }
 
 /// `(\E x : P) => P[CHOOSE x : P]`.
@@ -128,7 +131,12 @@ pub(crate) fn joined(
     ensures { IfOk result (λ e. e ≡ iff_ (in_ t.now (node set [] (part a.now (part b.now end)))) (node connective [] (part (in_ t.now a.now) (part (in_ t.now b.now) end)))) }
 {
     let whole = two(alloc, set, a.copy(alloc)?, b.copy(alloc)?)?;
-    let meaning = two(alloc, connective, member(alloc, t, a)?, member(alloc, t, b)?)?;
+    let meaning = two(
+        alloc,
+        connective,
+        member(alloc, t, a)?,
+        member(alloc, t, b)?,
+    )?;
     membership(alloc, t, whole, meaning)
 }
 
@@ -166,7 +174,13 @@ pub(crate) fn image(alloc: Global, t: &Expr, a: &Expr, e: &Expr) -> Result<Expr,
 pub(crate) fn then(alloc: Global, p: &Expr, a: &Expr, b: &Expr) -> Result<Expr, Memory>
     ensures { IfOk result (λ e. e ≡ imp_ p.now (eq_ (if_ p.now a.now b.now) a.now)) }
 {
-    let whole = three(alloc, Head::If, p.copy(alloc)?, a.copy(alloc)?, b.copy(alloc)?)?;
+    let whole = three(
+        alloc,
+        Head::If,
+        p.copy(alloc)?,
+        a.copy(alloc)?,
+        b.copy(alloc)?,
+    )?;
     let equal = two(alloc, Head::Eq, whole, a.copy(alloc)?)?;
     two(alloc, Head::Imp, p.copy(alloc)?, equal)
 }
@@ -175,9 +189,20 @@ pub(crate) fn then(alloc: Global, p: &Expr, a: &Expr, b: &Expr) -> Result<Expr, 
 pub(crate) fn otherwise(alloc: Global, p: &Expr, a: &Expr, b: &Expr) -> Result<Expr, Memory>
     ensures { IfOk result (λ e. e ≡ imp_ (not_ p.now) (eq_ (if_ p.now a.now b.now) b.now)) }
 {
-    let whole = three(alloc, Head::If, p.copy(alloc)?, a.copy(alloc)?, b.copy(alloc)?)?;
+    let whole = three(
+        alloc,
+        Head::If,
+        p.copy(alloc)?,
+        a.copy(alloc)?,
+        b.copy(alloc)?,
+    )?;
     let equal = two(alloc, Head::Eq, whole, b.copy(alloc)?)?;
-    two(alloc, Head::Imp, one(alloc, Head::Not, p.copy(alloc)?)?, equal)
+    two(
+        alloc,
+        Head::Imp,
+        one(alloc, Head::Not, p.copy(alloc)?)?,
+        equal,
+    )
 }
 
 /// `a \in s => [x \in s |-> e][a] = e[a]`.
@@ -214,7 +239,12 @@ pub(crate) fn function_set(alloc: Global, f: &Expr, s: &Expr, t: &Expr) -> Resul
     ensures { IfOk result (λ e. e ≡ iff_ (in_ f.now (funset_ s.now t.now)) (and_ (eq_ f.now (fun_ s.now (apply_ f.now (bound 0)))) (all_ (imp_ (in_ (bound 0) s.now) (in_ (apply_ f.now (bound 0)) t.now))))) }
 {
     let whole = two(alloc, Head::FunSet, s.copy(alloc)?, t.copy(alloc)?)?;
-    let meaning = two(alloc, Head::And, own_values(alloc, f, s)?, values_within(alloc, f, s, t)?)?;
+    let meaning = two(
+        alloc,
+        Head::And,
+        own_values(alloc, f, s)?,
+        values_within(alloc, f, s, t)?,
+    )?;
     membership(alloc, f, whole, meaning)
 }
 
@@ -222,11 +252,22 @@ pub(crate) fn function_set(alloc: Global, f: &Expr, s: &Expr, t: &Expr) -> Resul
 pub(crate) fn except(alloc: Global, f: &Expr, a: &Expr, b: &Expr) -> Result<Expr, Memory>
     ensures { IfOk result (λ e. e ≡ eq_ (except_ f.now a.now b.now) (fun_ (dom_ f.now) (if_ (eq_ (bound 0) a.now) b.now (apply_ f.now (bound 0))))) }
 {
-    let whole = three(alloc, Head::Except, f.copy(alloc)?, a.copy(alloc)?, b.copy(alloc)?)?;
+    let whole = three(
+        alloc,
+        Head::Except,
+        f.copy(alloc)?,
+        a.copy(alloc)?,
+        b.copy(alloc)?,
+    )?;
     let test = two(alloc, Head::Eq, innermost(alloc)?, a.copy(alloc)?)?;
     let body = three(alloc, Head::If, test, b.copy(alloc)?, value(alloc, f)?)?;
     let domain = one(alloc, Head::Dom, f.copy(alloc)?)?;
-    two(alloc, Head::Eq, whole, ranged(alloc, Binder::Fun, domain, body)?)
+    two(
+        alloc,
+        Head::Eq,
+        whole,
+        ranged(alloc, Binder::Fun, domain, body)?,
+    )
 }
 
 /// `[x \in s |-> d] = [x \in t |-> e] <=> (s = t /\ \A x : (x \in s => d = e))`.
@@ -244,5 +285,10 @@ pub(crate) fn function_equality(
     let whole = two(alloc, Head::Eq, left, right)?;
     let body = two(alloc, Head::Imp, inside(alloc, s)?, equation(alloc, d, e)?)?;
     let values = quantified(alloc, Binder::All, body)?;
-    two(alloc, Head::Iff, whole, two(alloc, Head::And, equation(alloc, s, t)?, values)?)
+    two(
+        alloc,
+        Head::Iff,
+        whole,
+        two(alloc, Head::And, equation(alloc, s, t)?, values)?,
+    )
 }

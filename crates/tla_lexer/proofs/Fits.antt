@@ -202,8 +202,8 @@ front-take k z =
 longest-is : (best : Text) (ss : List Text) (z : Text) → Front best z → Front (longest_from best ss z) z
 longest-is best [] z f = f
 longest-is best (s ∷ ss) z f =
-    longest-is (cond (starts_with nat_eq z s && nat_lt (length best) (length s)) s best) ss z
-    (by-cond (λ x. Front x z) (starts_with nat_eq z s && nat_lt (length best) (length s)) s best (λ e. starts-is s z (both _ _ e).0) (λ e. f))
+    longest-is (cond (nat_lt (length best) (length s) && starts_with nat_eq z s) s best) ss z
+    (by-cond (λ x. Front x z) (nat_lt (length best) (length s) && starts_with nat_eq z s) s best (λ e. starts-is s z (both _ _ e).1) (λ e. f))
 
 fits-sign : (s z : Text) → Front s z → Fits z (sign s)
 fits-sign [] z f = tt

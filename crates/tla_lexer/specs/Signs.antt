@@ -52,7 +52,7 @@ spellings =
 -- the longest of these with which the text begins, and the best so far where none is longer
 abbrev pub longest_from : Text → List Text → Text → Text
 longest_from best [] z = best
-longest_from best (s ∷ ss) z = longest_from (if starts_with nat_eq z s && nat_lt (length best) (length s) then s else best) ss z
+longest_from best (s ∷ ss) z = longest_from (if nat_lt (length best) (length s) && starts_with nat_eq z s then s else best) ss z
 
 -- the longest sign with which the text begins, empty where there is none
 unfoldable pub longest : Text → Text

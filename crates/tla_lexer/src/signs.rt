@@ -96,7 +96,7 @@ fn longest_of<'a>(table: &[&'a [u8]], z: &[u8]) -> &'a [u8]
 {
     let mut best: &'a [u8] = b"";
     for sign in table {
-        if z.starts_with(sign) && best.len() < sign.len() {
+        if best.len() < sign.len() && z.starts_with(sign) {
             best = sign;
         }
     }

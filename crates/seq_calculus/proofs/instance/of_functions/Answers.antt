@@ -9,8 +9,8 @@ returns-then-not-are_four_scoped c =
     let q : c.are_four_scoped.result ≡ false = search rules in
     sym (function_equality_open c.args.s.now c.args.d.now c.args.t.now c.args.e.now (not_from c.are_four_scoped.result _ c.are_four_scoped.ensures q))
 
-pub returns-in_ok-function_equality : goal.returns-in_ok-function_equality
-returns-in_ok-function_equality c =
+pub returns : goal.returns
+returns c =
     let q : c.are_four_scoped.result ≡ true = search rules in
     let h : IsScoped 0 c.args.s.now × IsScoped 1 c.args.d.now × IsScoped 0 c.args.t.now × IsScoped 1 c.args.e.now = yes_from c.are_four_scoped.result _ c.are_four_scoped.ensures q in
     ap Some c.in_ok-function_equality.ensures ∙ sym (function_equality_closed c.args.s.now c.args.d.now c.args.t.now c.args.e.now h.0 h.1 h.2 h.3)
