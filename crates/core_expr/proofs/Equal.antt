@@ -108,3 +108,21 @@ mutual
   pub all_scoped : (n : ℕ) (ps : Parts) → are_scoped n ps ≡ true → AreScoped n ps
   all_scoped n end h = tt
   all_scoped n (part e ps) h = let k = and-both (is_scoped n e) (are_scoped n ps) h in (scoped-true n e k.0, all_scoped n ps k.1)
+
+var_scoped : (n i : ℕ) → i < n → nat_lt i n ≡ true
+var_scoped n i h = grind (arith, nat_tests)
+
+both-and : (a b : Bool) → a ≡ true → b ≡ true → elim a [ true ↦ b | false ↦ false ] ≡ true
+both-and true b p q = q
+both-and false b p q = cc
+
+mutual
+  pub true-scoped : (n : ℕ) (e : Tree) → IsScoped n e → is_scoped n e ≡ true
+  true-scoped n (bound i) h = var_scoped n i h
+  true-scoped n (app f ps) h = true-all_scoped n ps h
+  true-scoped n (node f ns ps) h = true-all_scoped n ps h
+  true-scoped n (bind f ps e) h = both-and (are_scoped n ps) (is_scoped (suc n) e) (true-all_scoped n ps h.0) (true-scoped (suc n) e h.1)
+
+  true-all_scoped : (n : ℕ) (ps : Parts) → AreScoped n ps → are_scoped n ps ≡ true
+  true-all_scoped n end h = refl
+  true-all_scoped n (part e ps) h = both-and (is_scoped n e) (are_scoped n ps) (true-scoped n e h.0) (true-all_scoped n ps h.1)

@@ -37,15 +37,15 @@ mutual
   shifts-swap a b c d x end e h = refl
   shifts-swap a b c d x (part g ps) e h = λ i. part (shift-swap a b c d x g e h i) (shifts-swap a b c d x ps e h i)
 
-size-shifts : (b c : ℕ) (ps : Parts) → size (shifts b c ps) ≡ size ps
+pub size-shifts : (b c : ℕ) (ps : Parts) → size (shifts b c ps) ≡ size ps
 size-shifts b c end = refl
 size-shifts b c (part e ps) = ap suc (size-shifts b c ps)
 
-size-puts : (d : ℕ) (ts ps : Parts) → size (puts d ts ps) ≡ size ps
+pub size-puts : (d : ℕ) (ts ps : Parts) → size (puts d ts ps) ≡ size ps
 size-puts d ts end = refl
 size-puts d ts (part e ps) = ap suc (size-puts d ts ps)
 
-size-subs : (s : Sym → Option Tree) (ps : Parts) → size (subs s ps) ≡ size ps
+pub size-subs : (s : Sym → Option Tree) (ps : Parts) → size (subs s ps) ≡ size ps
 size-subs s end = refl
 size-subs s (part e ps) = ap suc (size-subs s ps)
 

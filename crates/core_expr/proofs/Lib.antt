@@ -1,2 +1,4 @@
 pub mod Laws
 pub mod Equal
+pub mod Formed
+pub mod FlatLaws

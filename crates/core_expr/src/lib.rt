@@ -4,10 +4,15 @@
 //! with their laws, and texts.
 #![tactic(auto)]
 
+mod expr;
 mod head;
 mod memory;
+mod row;
+mod rows;
 mod text;
 
+pub use expr::Expr;
 pub use head::{Binder, Head, Sym, SymKind};
 pub use memory::Memory;
+pub use row::{Row, RowKind};
 pub use text::Text;

@@ -1,9 +1,8 @@
 ghost use Rattle.std.specs.Prelude.{◌≡◌, IfOk};
 
+use crate::memory::Memory;
 use std::alloc::Global;
 use std::marker::Model;
-
-use crate::memory::Memory;
 
 /// A list of bytes: a name, a sign, a string. Contracts see it as that list.
 #[derive(Debug, Drop)]

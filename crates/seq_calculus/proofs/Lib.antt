@@ -1,0 +1,4 @@
+pub mod RowLaws
+pub mod Renamed
+pub mod Closed
+pub mod Examples

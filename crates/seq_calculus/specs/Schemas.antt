@@ -4,7 +4,7 @@ use Rattle.core_expr.specs.Tree.{Tree, Parts, true_, false_, boolean_, not_, and
 use Rattle.core_expr.specs.Tree.Tree.{bound}
 use Rattle.core_expr.specs.Tree.Parts.{end, part}
 use Rattle.core_expr.specs.Put.{inst, shift}
-use Rattle.core_expr.specs.Terms.{lists_equal}
+use Rattle.core_expr.specs.Terms.{lists_equal, is_scoped}
 
 -- the parts of a list
 abbrev pub parts : List Tree → Parts
@@ -142,14 +142,31 @@ no_row z es = None
 abbrev pub Row : Type 0
 Row = ℕ → List Tree → Option Tree
 
+-- a row whose number is 0
+abbrev pub unnumbered : Row → Row
+unnumbered r zero es = r 0 es
+unnumbered r (suc z) es = None
+
+-- the rows in order: a number counts only in those of tuples
 abbrev pub rows : List Row
-rows = no_row ∷ row1 ∷ row2 ∷ row3 ∷ row4 ∷ row5 ∷ row6 ∷ row7 ∷ row8 ∷ row9 ∷ row10 ∷ row11 ∷ row12 ∷ row13 ∷ row14 ∷ row15 ∷ row16 ∷ row17 ∷ row18 ∷ row19 ∷ row20 ∷ row21 ∷ row22 ∷ []
+rows =
+    no_row ∷ unnumbered row1 ∷ unnumbered row2 ∷ unnumbered row3 ∷ unnumbered row4 ∷ unnumbered row5 ∷ unnumbered row6 ∷ unnumbered row7 ∷ unnumbered row8 ∷ unnumbered row9 ∷ unnumbered row10 ∷ unnumbered row11 ∷ unnumbered row12 ∷ unnumbered row13
+    ∷ unnumbered row14 ∷ unnumbered row15 ∷ unnumbered row16 ∷ unnumbered row17 ∷ unnumbered row18 ∷ unnumbered row19 ∷ row20 ∷ row21 ∷ unnumbered row22 ∷ []
 
 abbrev pub row_at : List Row → ℕ → Row
 row_at [] k = no_row
 row_at (r ∷ rs) zero = r
 row_at (r ∷ rs) (suc k) = row_at rs k
 
--- the formula of the schema k
+-- the formula of the schema k with the number z and these parameters, closed or not
 abbrev pub instance_of : ℕ → ℕ → List Tree → Option Tree
 instance_of k = row_at rows k
+
+-- this formula, where it is closed
+abbrev pub if_closed : Option Tree → Option Tree
+if_closed None = None
+if_closed (Some i) = elim (is_scoped 0 i) [ true ↦ Some i | false ↦ None ]
+
+-- the closed instance of the schema k with the number z and these parameters
+abbrev pub closed_instance : ℕ → ℕ → List Tree → Option Tree
+closed_instance k z es = if_closed (instance_of k z es)

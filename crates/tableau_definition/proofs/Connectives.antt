@@ -1,19 +1,18 @@
 -- On a branch of propositional formulas: the rules and closings that are left.
-use Rattle.std.specs.Prelude.{◌≡◌, ◌↔◌, ℕ, zero, suc, Bool, true, false, Option, Some, None, List, [], ◌∷◌, ◌++◌}
-use Rattle.std.proofs.Common.{refl, ap, sym, ◌∙◌, arith, subst}
-use Rattle.core_expr.specs.Tree.{Tree, Parts, true_, false_, not_, and_, or_, imp_, iff_, eq_, ex_, choose_}
-use Rattle.core_expr.specs.Tree.Tree.{bound, app, node, bind}
+use Rattle.std.specs.Prelude.{◌≡◌, ℕ, suc, Bool, true, false, Option, Some, None, List, [], ◌∷◌, ◌++◌}
+use Rattle.std.proofs.Common.{refl, ap, ◌∙◌}
+use Rattle.core_expr.specs.Tree.{Tree, true_, false_, not_, and_, or_, imp_, iff_, ex_, choose_}
+use Rattle.core_expr.specs.Tree.Tree.{app}
 use Rattle.core_expr.specs.Tree.Parts.{end, part}
 use Rattle.core_expr.specs.Put.{inst}
-use Rattle.core_expr.specs.Terms.{same, is_scoped}
 use Rattle.tableau_definition.specs.Terms.{first_some, if_closed, first_at, first_in}
-use Rattle.tableau_definition.specs.Branches.{Entry, Branch, formulas, alive, has, add, add_all, used, Closing, closing, closing_from, closes_with, shuts_first, shuts_third, shuts_last, is_not_of, is_mirror_not, alone, partner}
-use Rattle.tableau_definition.specs.Values.{Valued, Truth, value, all_yes, first_no, joined, turned, both_true, one_true, same_truth, implied}
+use Rattle.tableau_definition.specs.Branches.{Branch, formulas, alive, has, Closing, closing_from, closes_with, shuts_first, shuts_third, shuts_last, is_not_of, is_mirror_not, alone, partner}
+use Rattle.tableau_definition.specs.Values.{Valued, value, all_yes, first_no, joined, turned, both_true, one_true, same_truth, implied}
 use Rattle.tableau_definition.specs.Values.Truth.{Yes, No, Unknown}
 use Rattle.tableau_definition.specs.Ranks.{Side, Step, Result, Signed, gives, oldest, plain, rewrite, rewrite_of, rewritten, derive, sides_of, replaced_by, by_equation, replace_rule, settle, settle_sides, choice, split, is_split_term, term_split, literal, split_at, extension, untaken, take_up}
 use Rattle.tableau_definition.specs.Instances.{Universal, Place, universal, places, by_count, at_place, instance_rule, spare_at, spare_rule}
 use Rattle.tableau_definition.specs.Search.{first_rule}
-use Rattle.tableau_definition.specs.Propositional.{Formula, Formulas, both, is_propositional, are_propositional, connective_plain, yes_by, no_by, on_branch, connective_value, all_true, first_false, settle_between, connective_settle, connective_rule, connective_closes, connective_closing_from, connective_closing, OnlyConnectiveRules, OnlyConnectiveClosings, OnlyConnectiveValues, TestsFormulas}
+use Rattle.tableau_definition.specs.Propositional.{Formula, Formulas, both, is_propositional, are_propositional, connective_plain, yes_by, no_by, on_branch, connective_value, all_true, first_false, settle_between, connective_settle, connective_rule, connective_closes, connective_closing_from, OnlyConnectiveRules, OnlyConnectiveClosings, OnlyConnectiveValues, TestsFormulas}
 use Rattle.tableau_definition.specs.Propositional.Formula.{f_true, f_false, f_symbol, f_not, f_and, f_or, f_imp, f_iff}
 
 -- the test

@@ -1,5 +1,5 @@
 -- The laws that the contracts state, from the lemmas on either edition.
-use Rattle.std.specs.Prelude.{◌≡◌, ℕ, Bool, true, false, List, [], ◌∷◌}
+use Rattle.std.specs.Prelude.{◌≡◌, ℕ, Bool, true, false, List}
 use Rattle.std.proofs.Common.{sym, subst}
 use Rattle.core_expr.specs.Tree.{Tree}
 use Rattle.tableau_definition.specs.Search.{search}

@@ -1,6 +1,6 @@
 -- What the search without dropping closes: each open branch has a tree that is closed for it.
-use Rattle.std.specs.Prelude.{◌≡◌, ℕ, zero, suc, Bool, true, false, Option, Some, None, List, [], ◌∷◌, ◌++◌}
-use Rattle.std.proofs.Common.{refl, sym, ◌∙◌, subst, inl, inr}
+use Rattle.std.specs.Prelude.{◌≡◌, ℕ, zero, suc, true, false, Option, Some, None, List, [], ◌∷◌, ◌++◌}
+use Rattle.std.proofs.Common.{refl, inl}
 use Rattle.core_expr.specs.Tree.{Tree, not_}
 use Rattle.seq_calculus.specs.Calculus.{HasAll, IsClosed, AllClosed}
 use Rattle.tableau_definition.proofs.Rules.{HasAll-one}
@@ -11,7 +11,7 @@ use Rattle.tableau_definition.specs.Search.Next.{Stuck, Goes}
 use Rattle.tableau_definition.specs.Search.End.{Saturated, Spent}
 use Rattle.tableau_definition.specs.Turns.{Turns, IsClosedFor}
 use Rattle.tableau_definition.specs.Turns.Turns.{shut, one, both}
-use Rattle.tableau_definition.proofs.Sides.{EachClosed, Sided, Sided-closed, FineResult, Shut, closing-shut, added-all, Closed-all, HasAll-append}
+use Rattle.tableau_definition.proofs.Sides.{EachClosed, Sided, Sided-closed, FineResult, added-all, Closed-all, HasAll-append}
 use Rattle.tableau_definition.proofs.Sound.{first_rule-fine, IsClosedEnd, OpensClosed, OpensClosed-append, path-closed, sides-closed}
 
 module _ (w : Tree) where

@@ -18,3 +18,9 @@ pub mod Connectives
 pub mod Kept
 pub mod Grown
 pub mod Contracts
+pub mod Truths
+pub mod Saturates
+pub mod Refutes
+pub mod Enough
+pub mod Reducing
+pub mod Decides

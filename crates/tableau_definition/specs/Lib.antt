@@ -7,3 +7,4 @@ pub mod Search
 pub mod Turns
 pub mod Propositional
 pub mod Laws
+pub mod Reduced

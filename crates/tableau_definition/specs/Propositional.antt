@@ -1,6 +1,8 @@
 -- Propositional formulas, and the search where a branch has no others.
-use Rattle.std.specs.Prelude.{◌≡◌, ◌↔◌, ℕ, Bool, true, false, Option, Some, None, List, [], ◌∷◌, ◌++◌}
+use Rattle.std.specs.Prelude.{◌⊎◌, ◌<◌, zero, ◌≡◌, ◌↔◌, ◌≤◌, ◌+◌, ◌^◌, ℕ, suc, Bool, true, false, Option, Some, None, List, [], ◌∷◌, ◌++◌}
+use Rattle.std.proofs.Common.{get_or}
 use Rattle.core_expr.specs.declared.head.Sym.{Sym}
+use Rattle.core_expr.specs.declared.head.SymKind.TheVariants.{Canon}
 use Rattle.core_expr.specs.Tree.{Tree, true_, false_, not_, and_, or_, imp_, iff_}
 use Rattle.core_expr.specs.Tree.Tree.{app}
 use Rattle.core_expr.specs.Tree.Parts.{end}
@@ -8,8 +10,9 @@ use Rattle.tableau_definition.specs.Terms.{first_some}
 use Rattle.tableau_definition.specs.Branches.{Branch, formulas, has, Closing, closing, shuts_first, is_not_of, alone, partner}
 use Rattle.tableau_definition.specs.Values.{Valued, joined, turned, both_true, one_true, same_truth, implied, value}
 use Rattle.tableau_definition.specs.Values.Truth.{Yes, No, Unknown}
-use Rattle.tableau_definition.specs.Ranks.{Side, Step, Result, gives, oldest, plain, split}
-use Rattle.tableau_definition.specs.Search.{first_rule, Open, apply, Next, turn, start}
+use Rattle.tableau_definition.specs.Ranks.{Side, Step, Result, gives, oldest, split}
+use Rattle.tableau_definition.specs.Search.{first_rule, Open, turn, start, search}
+use Rattle.tableau_definition.specs.Search.End.{Closed, Saturated, Spent}
 use Rattle.tableau_definition.specs.Search.Next.{Goes}
 
 -- built from TRUE, FALSE and symbols without arguments by the five connectives
@@ -122,10 +125,107 @@ connective_closing_from older (f ∷ fs) = elim (connective_closes older f) [ So
 abbrev pub connective_closing : Branch → Option Closing
 connective_closing b = connective_closing_from [] (formulas b)
 
+-- each open branch has P
+abbrev pub EachOpen : (Branch → Type 0) → List Open → Type 0
+EachOpen P [] = Unit {0}
+EachOpen P (o ∷ os) = P o.branch × EachOpen P os
+
 -- each open branch has propositional formulas alone
 abbrev pub OpenFormulas : List Open → Type 0
-OpenFormulas [] = Unit {0}
-OpenFormulas (o ∷ os) = Formulas (formulas o.branch) × OpenFormulas os
+OpenFormulas os = EachOpen (λ b. Formulas (formulas b)) os
+
+-- truth values
+abbrev pub negated : Bool → Bool
+negated true = false
+negated false = true
+
+abbrev pub one_holds : Bool → Bool → Bool
+one_holds true y = true
+one_holds false y = y
+
+abbrev pub agreeing : Bool → Bool → Bool
+agreeing true y = y
+agreeing false y = negated y
+
+-- a truth value for each symbol
+abbrev pub Valuation : Type 0
+Valuation = Sym → Bool
+
+-- the truth value of a propositional formula under a valuation; another formula is taken as false
+abbrev pub value_under : Valuation → Tree → Bool
+value_under v true_ = true
+value_under v false_ = false
+value_under v (app s end) = v s
+value_under v (not_ a) = negated (value_under v a)
+value_under v (and_ a b) = both (value_under v a) (value_under v b)
+value_under v (or_ a b) = one_holds (value_under v a) (value_under v b)
+value_under v (imp_ a b) = one_holds (negated (value_under v a)) (value_under v b)
+value_under v (iff_ a b) = agreeing (value_under v a) (value_under v b)
+value_under v _ = false
+
+abbrev pub AllHold : Valuation → List Tree → Type 0
+AllHold v [] = Unit {0}
+AllHold v (f ∷ fs) = (value_under v f ≡ true) × AllHold v fs
+
+-- every fact is true and the goal is false
+abbrev pub Falsifies : Valuation → List Tree → Tree → Type 0
+Falsifies v facts goal = AllHold v facts × (value_under v goal ≡ false)
+
+-- the test of the same
+abbrev pub all_hold : Valuation → List Tree → Bool
+all_hold v [] = true
+all_hold v (f ∷ fs) = both (value_under v f) (all_hold v fs)
+
+abbrev pub falsifies : Valuation → List Tree → Tree → Bool
+falsifies v facts goal = both (all_hold v facts) (negated (value_under v goal))
+
+-- true of exactly the symbols that are entries
+abbrev pub valuation_of : Branch → Valuation
+valuation_of b s = has b (app s end)
+
+-- the symbol of a canonical form with this number, without arguments
+abbrev pub numbered : ℕ → Sym
+numbered i = record { kind = Canon; number = i; arity = 0 }
+
+-- the valuation that gives the i-th value to the i-th symbol of a canonical form
+abbrev pub by_number : List Bool → Valuation
+by_number values s = get_or values s.number false
+
+-- the values of n symbols of a canonical form, from the i-th on
+abbrev pub values_from : ℕ → ℕ → Valuation → List Bool
+values_from i zero v = []
+values_from i (suc n) v = v (numbered i) ∷ values_from (suc i) n v
+
+-- the values of the first n symbols of a canonical form
+abbrev pub first_values : ℕ → Valuation → List Bool
+first_values n v = values_from 0 n v
+
+-- the symbols without arguments are among the first n of a canonical form
+abbrev pub IsNumbered : ℕ → Tree → Type 0
+IsNumbered n (app s end) = (s ≡ numbered s.number) × (s.number < n)
+IsNumbered n (not_ a) = IsNumbered n a
+IsNumbered n (and_ a b) = IsNumbered n a × IsNumbered n b
+IsNumbered n (or_ a b) = IsNumbered n a × IsNumbered n b
+IsNumbered n (imp_ a b) = IsNumbered n a × IsNumbered n b
+IsNumbered n (iff_ a b) = IsNumbered n a × IsNumbered n b
+IsNumbered n _ = Unit {0}
+
+abbrev pub AreNumbered : ℕ → List Tree → Type 0
+AreNumbered n [] = Unit {0}
+AreNumbered n (f ∷ fs) = IsNumbered n f × AreNumbered n fs
+
+-- the number of nodes with a connective on top
+abbrev pub connectives : Tree → ℕ
+connectives (not_ a) = suc (connectives a)
+connectives (and_ a b) = suc (connectives a + connectives b)
+connectives (or_ a b) = suc (connectives a + connectives b)
+connectives (imp_ a b) = suc (connectives a + connectives b)
+connectives (iff_ a b) = suc (connectives a + connectives b)
+connectives _ = 0
+
+abbrev pub all_connectives : List Tree → Tree → ℕ
+all_connectives [] goal = connectives goal
+all_connectives (f ∷ facts) goal = connectives f + all_connectives facts goal
 
 -- The laws. The test says what it tests.
 abbrev pub TestsFormulas : Type 0
@@ -134,6 +234,13 @@ TestsFormulas = (fs : List Tree) → (are_propositional fs ≡ true) ↔ Formula
 -- no rank but plain, settle and split applies
 abbrev pub OnlyConnectiveRules : Type 0
 OnlyConnectiveRules = (w : Tree) (b : Branch) → Formulas (formulas b) → first_rule w b ≡ connective_rule b
+
+abbrev pub OnlyConnectiveRanks : Type 0
+OnlyConnectiveRanks =
+    (w : Tree) (b : Branch) (r : Result)
+    → Formulas (formulas b)
+    → first_rule w b ≡ Some r
+    → (r.rank ≡ 1) ⊎ ((r.rank ≡ 5) ⊎ (r.rank ≡ 7))
 
 -- no closing but the first three comes
 abbrev pub OnlyConnectiveClosings : Type 0
@@ -152,3 +259,54 @@ StaysPropositional =
     → OpenFormulas (o ∷ os)
     → turn drops w n o os ≡ Goes cs
     → OpenFormulas cs
+
+abbrev pub TestsFalsifies : Type 0
+TestsFalsifies = (v : Valuation) (facts : List Tree) (goal : Tree) → (falsifies v facts goal ≡ true) ↔ Falsifies v facts goal
+
+-- a saturated end carries a branch whose valuation falsifies
+abbrev pub SaturatedFalsifies : Type 0
+SaturatedFalsifies =
+    (drops : Bool) (symbols : ℕ) (facts : List Tree) (goal : Tree) (limit used : ℕ) (b : Branch)
+    → Formulas facts
+    → Formula goal
+    → search drops symbols facts goal limit ≡ Saturated b used
+    → Falsifies (valuation_of b) facts goal
+
+-- a closed end comes only where no valuation falsifies
+abbrev pub ClosedIsValid : Type 0
+ClosedIsValid =
+    (drops : Bool) (symbols : ℕ) (facts : List Tree) (goal : Tree) (limit used : ℕ) (v : Valuation)
+    → Formulas facts
+    → Formula goal
+    → search drops symbols facts goal limit ≡ Closed used
+    → Falsifies v facts goal
+    → ⊥
+
+-- with so many turns the search comes to an end
+abbrev pub TurnsSuffice : Type 0
+TurnsSuffice =
+    (drops : Bool) (symbols : ℕ) (facts : List Tree) (goal : Tree) (limit used : ℕ)
+    → Formulas facts
+    → Formula goal
+    → 2 ^ (all_connectives facts goal + 1) ≤ limit
+    → search drops symbols facts goal limit ≡ Spent used
+    → ⊥
+
+-- so with so many turns the search ends closed exactly where no valuation falsifies
+abbrev pub DecidesPropositional : Type 0
+DecidesPropositional =
+    (drops : Bool) (symbols : ℕ) (facts : List Tree) (goal : Tree) (limit : ℕ)
+    → Formulas facts
+    → Formula goal
+    → 2 ^ (all_connectives facts goal + 1) ≤ limit
+    → ((used : ℕ) × (search drops symbols facts goal limit ≡ Closed used)) ↔ ((v : Valuation) → Falsifies v facts goal → ⊥)
+
+-- a valuation counts by the values of the symbols alone: where they are the first n, their values in a row say as much
+abbrev pub FalsifiesByNumber : Type 0
+FalsifiesByNumber =
+    (n : ℕ) (v : Valuation) (facts : List Tree) (goal : Tree)
+    → Formulas facts
+    → Formula goal
+    → AreNumbered n facts
+    → IsNumbered n goal
+    → Falsifies (by_number (first_values n v)) facts goal ↔ Falsifies v facts goal

@@ -6,14 +6,14 @@ use Rattle.tableau_definition.specs.Values.{in_list}
 use Rattle.tableau_definition.specs.Ranks.{Side, Result}
 use Rattle.tableau_definition.specs.Search.{first_rule}
 
--- the needs that a rule gives (they steer no rule) stand first; a closing; a rule with one result; a rule with two, of which the first alone has a tree; a rule with two
+-- A tree of turns. Each rule comes with the needs that it gives, which stand first and steer no rule. shut is a closing; one is a rule with one resulting branch; first is a split whose first side alone has a tree, and both a split with a tree for each side.
 pub data Turns : Type 0 where
   shut : Closing → Turns
   one : List ℕ → Result → Side → Turns → Turns
   first : List ℕ → Result → Side → Side → Turns → Turns
   both : List ℕ → Result → Side → Side → Turns → Turns → Turns
 
--- a side's branch, where what is added has the needs m
+-- the branch of a side, where what is added has the needs m
 abbrev pub result_of : Branch → List ℕ → Result → Side → Branch
 result_of b m r s = add_all m (used s.stays r.step.rises b r.entry) s.added
 
@@ -22,16 +22,17 @@ abbrev pub newly : Branch → List Tree → List Tree
 newly b [] = []
 newly b (f ∷ fs) = elim (has b f) [ true ↦ newly b fs | false ↦ f ∷ newly b fs ]
 
+-- us without those in ns
 abbrev pub minus : List Tree → List Tree → List Tree
 minus [] ns = []
 minus (u ∷ us) ns = elim (in_list ns u) [ true ↦ minus us ns | false ↦ u ∷ minus us ns ]
 
+-- one of us is in ns
 abbrev pub meets : List Tree → List Tree → Bool
 meets [] ns = false
 meets (u ∷ us) ns = elim (in_list ns u) [ true ↦ true | false ↦ meets us ns ]
 
--- what is used: of a closing its formulas; else what the results use but what is newly added, and what the rule names
--- where one of those is used
+-- What a tree uses of its branch. Of a closing its formulas; of a rule what its results use but for what the rule newly added, and, where one of those is used, the formulas that the rule names.
 abbrev pub used_by : Branch → Turns → List Tree
 used_by b (shut c) = c.entries
 used_by b (one m r s t) =
@@ -46,7 +47,7 @@ used_by b (both m r l s t v) =
       | false ↦ elim (meets (used_by (result_of b m r s) v) (newly b s.added)) [ true ↦ r.step.named ++ (us ++ vs) | false ↦ us ++ vs ]
     ]
 
--- the tree is closed for the branch
+-- The tree is closed for the branch b, with the spare term w: each closing is its branch's closing, each rule its branch's first rule, and a split without a tree for the second side is one whose first side uses nothing that the split newly added there.
 abbrev pub IsClosedFor : Tree → Branch → Turns → Type 0
 IsClosedFor w b (shut c) = closing b ≡ Some c
 IsClosedFor w b (one m r s t) = (first_rule w b ≡ Some r) × (r.step.sides ≡ s ∷ []) × IsClosedFor w (result_of b m r s) t
