@@ -13,12 +13,14 @@
 mod branch;
 mod choose;
 mod formulas;
+mod laws;
 mod node;
 mod rules;
 mod search;
 mod values;
 
 pub use formulas::Formulas;
+pub use laws::{proved_answers_hold, saturated_answers_falsify};
 pub use node::Node;
 pub use search::{Answer, decide};
 
