@@ -1,6 +1,5 @@
 -- What an answer says of valuations.
-use Rattle.std.proofs.Common.{◌≡◌, ℕ, zero, suc, Bool, false, List, [], ◌∷◌, refl, ap, sym, ◌∙◌, subst}
-use Rattle.core_expr.specs.Tree.{Tree}
+use Rattle.std.proofs.Common.{◌≡◌, ℕ, zero, suc, false, ◌∷◌, refl, ap, sym, ◌∙◌, subst}
 use Rattle.tableau_definition.specs.Branches.{Branch, has}
 use Rattle.tableau_definition.specs.Search.{End, search}
 use Rattle.tableau_definition.specs.Search.End.{Closed as AllClosed, Saturated as Stays, Spent as Cut}
