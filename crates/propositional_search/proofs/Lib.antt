@@ -10,3 +10,4 @@ pub mod CloseLaws
 pub mod TurnLaws
 pub mod SearchLaws
 pub mod Prepared
+pub mod Meant

@@ -6,6 +6,7 @@
 //! - `decide` answers the end of the written search, in its first edition, whatever the limit of turns: proved,
 //!   saturated or spent, with the same number of turns, and for a saturated branch the values of the symbols on it.
 //!   Want of memory is its only other answer.
+//! - `saturated_answers_falsify` and `proved_answers_hold` say what answers mean under valuations.
 //!
 //! A turn costs time linear in the branch and in the number of formulas; nothing recurses on the depth of a formula.
 #![tactic(auto)]
@@ -13,12 +14,14 @@
 mod branch;
 mod choose;
 mod formulas;
+mod laws;
 mod node;
 mod rules;
 mod search;
 mod values;
 
 pub use formulas::Formulas;
+pub use laws::{proved_answers_hold, saturated_answers_falsify};
 pub use node::Node;
 pub use search::{Answer, decide};
 

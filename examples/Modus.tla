@@ -1,0 +1,4 @@
+---- MODULE Modus ----
+CONSTANTS A, B, C
+THEOREM T == A /\ B => A OBVIOUS
+====

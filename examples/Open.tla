@@ -1,0 +1,4 @@
+---- MODULE Open ----
+CONSTANTS A, B, C
+THEOREM T == A /\ B => C OBVIOUS
+====
