@@ -21,7 +21,7 @@ constants ns = map constant_sym ns
 abbrev pub constant : ℕ → Tree
 constant n = leaf (constant_sym n)
 
-symbols-conjoined : (t : Tree) (ns : List ℕ) (l : List Sym) → symbols (conjunction t (map constant ns)) l ≡ symbols t (map constant_sym ns ++ l)
+symbols-conjunction : (t : Tree) (ns : List ℕ) (l : List Sym) → symbols (conjunction t (map constant ns)) l ≡ symbols t (map constant_sym ns ++ l)
 symbols-conjunction t [] l = refl
 symbols-conjunction t (n ∷ ns) l = symbols-conjunction (and_ t (constant n)) ns l
 
@@ -135,13 +135,13 @@ renumber-constant : (order : List ℕ) (n i : ℕ) → Distinct order → slice_
 renumber-constant order n i d e =
     ap (λ (o : Option ℕ). apply_body (numbered (constant_sym n) o) (constant_sym n) end) (place-at 0 order i n d e ∙ ap (λ (x : ℕ). Some x) (zero-add i))
 
-sub-conjoined : (s : Sym → Option Tree) (t : Tree) (us : List Tree) → sub s (conjunction t us) ≡ conjunction (sub s t) (map (sub s) us)
-sub-conjoined s t [] = refl
-sub-conjoined s t (u ∷ us) = sub-conjoined s (and_ t u) us
+sub-conjunction : (s : Sym → Option Tree) (t : Tree) (us : List Tree) → sub s (conjunction t us) ≡ conjunction (sub s t) (map (sub s) us)
+sub-conjunction s t [] = refl
+sub-conjunction s t (u ∷ us) = sub-conjunction s (and_ t u) us
 
 pub sub-implication : (s : Sym → Option Tree) (hs : List Tree) (c : Tree) → sub s (implication hs c) ≡ implication (map (sub s) hs) (sub s c)
 sub-implication s [] c = refl
-sub-implication s (h ∷ hs) c = ap (λ t. imp_ t (sub s c)) (sub-conjoined s h hs)
+sub-implication s (h ∷ hs) c = ap (λ t. imp_ t (sub s c)) (sub-conjunction s h hs)
 
 renumber-constants : (order : List ℕ) → Distinct order → (hs ps : List ℕ) → ArePlaces order hs ps → map (sub (renumber (map constant_sym order))) (map constant hs) ≡ map numeral ps
 renumber-constants order d [] [] h = refl

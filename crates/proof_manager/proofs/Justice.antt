@@ -1,5 +1,5 @@
 -- A proved theorem has its derivation, and the values of an unproved one falsify it.
-use Rattle.std.specs.Prelude.{◌≡◌, ℕ, zero, suc, ◌+◌, ◌<◌, Bool, true, false, ◌||◌, cond, nat_eq, Option, Some, None, List, [], ◌∷◌, ◌++◌, map, length, take, slice_get, slice_index_or}
+use Rattle.std.specs.Prelude.{◌≡◌, ℕ, zero, suc, ◌+◌, ◌-◌, ◌<◌, Bool, true, false, ◌||◌, cond, nat_eq, Option, Some, None, List, [], ◌∷◌, ◌++◌, map, length, take, slice_get, slice_index_or}
 use Rattle.std.specs.List.{list_any}
 use Rattle.std.proofs.Common.{refl, ap, sym, ◌∙◌, arith, subst}
 use Rattle.std.proofs.lemmas.Bool.Decides.{nat_tests}
@@ -23,7 +23,8 @@ use Rattle.propositional_search.specs.Answers.{valuation, valuation_from}
 use Rattle.proof_manager.specs.Canonical.{symbol_order, canonical}
 use Rattle.proof_manager.specs.Statement.{constant_sym, leaf, numeral, conjunction, implication, statement, answer_for, end_of, answer, turn_limit}
 use Rattle.proof_manager.specs.Numbering.{different, ArePlaces}
-use Rattle.proof_manager.specs.Report.{is_proved}
+use Rattle.first_form.specs.Form.{name_at}
+use Rattle.proof_manager.specs.Report.{Bytes, HasValues, is_proved}
 use Rattle.proof_manager.proofs.CanonicalLaws.{constant, canonical-statement, order-statement, first_places, sub-implication}
 
 nat_same : (a b : ℕ) → nat_eq a b ≡ true → a ≡ b
@@ -85,11 +86,11 @@ placed seen (n ∷ ns) ms =
     (here.0 ∷ rest.0, (here.1, rest.1))
 
 -- the constant of each canonical symbol
-restored : Option ℕ → Option Tree
+pub restored : Option ℕ → Option Tree
 restored None = None
 restored (Some n) = Some (constant n)
 
-restore : List ℕ → Sym → Option Tree
+pub restore : List ℕ → Sym → Option Tree
 restore order f = restored (slice_get order f.number)
 
 restore-numeral : (order : List ℕ) (i n : ℕ) → slice_get order i ≡ Some n → sub (restore order) (numeral i) ≡ constant n
@@ -102,7 +103,7 @@ restore-numerals order [] (p ∷ ps) h = absurd h
 restore-numerals order (n ∷ hs) [] h = absurd h
 restore-numerals order (n ∷ hs) (p ∷ ps) h = λ i. restore-numeral order p n h.0 i ∷ restore-numerals order hs ps h.1 i
 
-AreBelow : ℕ → List ℕ → Type 0
+pub AreBelow : ℕ → List ℕ → Type 0
 AreBelow n [] = Unit {0}
 AreBelow n (p ∷ ps) = (p < n) × AreBelow n ps
 
@@ -237,3 +238,50 @@ refutes falsifies numbers hs c values turns h =
     let f = falsifies false n [] (canonical t) turn_limit e.1 e.0 tt (canonical-formula hs c) e.2 in
     let k = (numbers n (valuation_of e.0) [] (canonical t) tt (canonical-formula hs c) tt (canonical-numbered hs c)).1 f in
     subst (λ vs. Falsifies (by_number vs) [] (canonical t)) (first-values 0 n e.0 ∙ e.3) k
+
+-- a saturated answer has a value for each symbol
+length-valuation : (k n : ℕ) (b : Branch) → length (valuation_from k n b) ≡ n
+length-valuation k zero b = refl
+length-valuation k (suc n) b = ap suc (length-valuation (suc k) n b)
+
+pub has_values : (n : ℕ) (a : Answer) (e : End) → a ≡ answer_for n e → HasValues n a
+unfolding valuation
+has_values n a e h = subst (HasValues n) (sym h) (of e)
+  where
+    of : (e : End) → HasValues n (answer_for n e)
+    of (Closed k) = tt
+    of (Open b k) = length-valuation 0 n b
+    of (Cut k) = tt
+
+places-length : (order ns ps : List ℕ) → ArePlaces order ns ps → length ps ≡ length ns
+places-length order [] [] h = refl
+places-length order [] (p ∷ ps) h = absurd h
+places-length order (n ∷ ns) [] h = absurd h
+places-length order (n ∷ ns) (p ∷ ps) h = ap suc (places-length order ns ps h.1)
+
+length-more : (hs : List ℕ) (c : ℕ) → length (hs ++ c ∷ []) ≡ suc (length hs)
+length-more [] c = refl
+length-more (h ∷ hs) c = ap suc (length-more hs c)
+
+-- the answer over the places of names is the answer to the statement
+pub answer-is : (hs : List ℕ) (c : ℕ) (order ps : List ℕ) (a : Answer) → order ≡ different (hs ++ c ∷ []) → ArePlaces order (hs ++ c ∷ []) ps
+    → a ≡ answer_for (length order) (search false (length order) [] (implication (map numeral (take (length ps - 1) ps)) (numeral (slice_index_or ps (length ps - 1) 0))) turn_limit)
+    → a ≡ answer (statement hs c)
+unfolding end_of
+answer-is hs c order ps a q h e =
+    let t = statement hs c in
+    let h1 : ArePlaces (different (hs ++ c ∷ [])) (hs ++ c ∷ []) ps = subst (λ (o : List ℕ). ArePlaces o (hs ++ c ∷ []) ps) q h in
+    let l0 : length ps ≡ suc (length hs) = places-length order (hs ++ c ∷ []) ps h ∙ length-more hs c in
+    let l : length ps - 1 ≡ length hs = omega arith in
+    let f : implication (map numeral (take (length ps - 1) ps)) (numeral (slice_index_or ps (length ps - 1) 0)) ≡ canonical t =
+      ap (λ n. implication (map numeral (take n ps)) (numeral (slice_index_or ps n 0))) l ∙ sym (canonical-statement hs c ps h1) in
+    let n : length order ≡ length (symbol_order t) = ap length q ∙ sym (order-length hs c) in
+    e ∙ (λ i. answer_for (n i) (search false (n i) [] (f i) turn_limit))
+
+map-names : (constants : List Bytes) (ns : List ℕ) → map (λ (s : Sym). name_at constants s.number) (map constant_sym ns) ≡ map (name_at constants) ns
+map-names constants [] = refl
+map-names constants (n ∷ ns) = ap (λ l. name_at constants n ∷ l) (map-names constants ns)
+
+-- the names at the places of the order are those of the canonical symbols
+pub names-are : (constants : List Bytes) (hs : List ℕ) (c : ℕ) (order : List ℕ) → order ≡ different (hs ++ c ∷ []) → map (name_at constants) order ≡ map (λ (s : Sym). name_at constants s.number) (symbol_order (statement hs c))
+names-are constants hs c order q = ap (map (name_at constants)) q ∙ sym (map-names constants (different (hs ++ c ∷ []))) ∙ ap (map (λ (s : Sym). name_at constants s.number)) (sym (order-statement hs c))

@@ -82,8 +82,8 @@ Ends status.NotAll folder root old new =
     (form : FirstForm) × IsRead folder root form × (is_proved (answer_of form) ≡ false) × TakesReport root form old new
 Ends status.WriteFault folder root old new = (form : FirstForm) × IsRead folder root form × TakesPart root form old new
 Ends (status.NotFound name) folder root old new = (name ≡ root) × (folder root ≡ None)
-Ends (status.Refused module place k) folder root old new =
-    (module ≡ root) × (place ≡ first_place) × (k ≡ kind.Unsupported (codes "form")) × IsNotRead folder root
+Ends (status.Refused name place k) folder root old new =
+    (name ≡ root) × (place ≡ first_place) × (k ≡ kind.Unsupported (codes "form")) × IsNotRead folder root
 Ends status.Words folder root old new = Unit {0}
 Ends status.ReadFault folder root old new = Unit {0}
 Ends status.Memory folder root old new = Unit {0}
@@ -107,6 +107,12 @@ Refutes _ folder root = Unit {0}
 -- the same, where the words name a module and the shelf tells what it holds
 abbrev pub Justified : Status → Option Folder → Option Bytes → Type 0
 Justified s told root = WhereTold root (λ name. WhereTold told (λ folder. Derives s folder name × Refutes s folder name))
+
+-- what is justified of a form by the status of its report
+abbrev pub IsJust : Status → FirstForm → Type 0
+IsJust status.AllProved form = Der [] (statement_of form ∷ [])
+IsJust status.NotAll form = (values : List Bool) (turns : ℕ) → answer_of form ≡ Saturated values turns → Falsifies (by_number values) [] (canonical (statement_of form))
+IsJust _ form = Unit {0}
 
 -- how the loading ends, where the shelf tells what it holds
 abbrev pub Loads : Result FirstForm LoadFault → Option Folder → Bytes → Type 0

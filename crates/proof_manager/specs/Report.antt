@@ -33,7 +33,7 @@ valuation_text (name ∷ names) (value ∷ values) = value_text name value ++ mo
 -- what is printed of an answer
 abbrev pub verdict_text : List Bytes → Answer → Bytes
 verdict_text names (Proved turns) = codes "proved, " ++ decimal turns ++ codes " turns"
-verdict_text names (Saturated values turns) = codes "saturated, " ++ decimal turns ++ codes " turns: " ++ valuation_text names values
+verdict_text names (Saturated values turns) = codes "saturated, " ++ decimal turns ++ codes " turns" ++ codes ": " ++ valuation_text names values
 verdict_text names (Spent turns) = codes "spent, " ++ decimal turns ++ codes " turns"
 
 -- a saturated answer has as many values

@@ -1,39 +1,38 @@
-ghost use Rattle.std.specs.Prelude.{◌≡◌, ◌<◌, ◌∷◌, length, map, IfOk};
-ghost use Rattle.propositional_search.specs.Nodes.{Extends, Adds};
-ghost use Rattle.proof_manager.specs.Statement.{numeral, conjunction, implication};
+ghost use Rattle.std.specs.Prelude.{◌≡◌, ◌<◌, length, map, fold, IfOk};
+ghost use Rattle.propositional_search.specs.Nodes.{tree_at, and_symbol, symbol_};
+ghost use Rattle.core_expr.specs.Tree.{imp_};
+ghost use Rattle.proof_manager.specs.Statement.{numeral, implication};
 
 use core_expr::Memory;
 use propositional_search::Formulas;
 
-/// The conjunction of the canonical symbols with these numbers, nested to the left.
-fn conjunction_of(formulas: &mut Formulas, first: u64, rest: &[u64]) -> Result<usize, Memory>
-    ensures extends { Extends formulas.old formulas.new }
-    ensures made { IfOk result (λ i. Adds formulas.old formulas.new i (conjunction (numeral first) (map numeral rest.now))) }
+// The place of the implication from a conjunction of canonical symbols.
+fn from_conjunction(
+    formulas: &mut Formulas,
+    first: u64,
+    later: &[u64],
+    conclusion: u64,
+) -> Result<usize, Memory>
+    ensures within { IfOk result (λ i. i < length formulas.new) }
+    ensures tree { IfOk result (λ i. tree_at formulas.new i ≡ imp_ (fold and_symbol (symbol_ first) later.now) (symbol_ conclusion)) }
 {
-    let mut place = formulas.symbol(first)?;
-    for number in rest {
-        let right = formulas.symbol(*number)?;
-        place = formulas.and(place, right)?;
-    }
-    Ok(place)
+    let left = formulas.conjunction_of_symbols(first, later)?;
+    let right = formulas.symbol(conclusion)?;
+    formulas.implies(left, right)
 }
 
-/// The implication from the conjunction of the canonical symbols with these numbers; the conclusion alone where there
-/// are none.
+/// The place of the implication from the conjunction of the canonical symbols with these numbers; of the conclusion
+/// alone where there are none.
 pub fn implication_of(
     formulas: &mut Formulas,
     hypotheses: &[u64],
     conclusion: u64,
 ) -> Result<usize, Memory>
-    ensures extends { Extends formulas.old formulas.new }
-    ensures made { IfOk result (λ i. Adds formulas.old formulas.new i (implication (map numeral hypotheses.now) (numeral conclusion))) }
+    ensures within { IfOk result (λ i. i < length formulas.new) }
+    ensures tree { IfOk result (λ i. tree_at formulas.new i ≡ implication (map numeral hypotheses.now) (numeral conclusion)) }
 {
-    match hypotheses {
-        [] => formulas.symbol(conclusion),
-        [first, rest @ ..] => {
-            let left = conjunction_of(formulas, *first, rest)?;
-            let right = formulas.symbol(conclusion)?;
-            formulas.implies(left, right)
-        }
+    if hypotheses.is_empty() {
+        return formulas.symbol(conclusion);
     }
+    from_conjunction(formulas, hypotheses[0], &hypotheses[1..], conclusion)
 }

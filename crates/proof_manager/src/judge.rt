@@ -34,17 +34,6 @@ fn numbering_of(alloc: Global, form: &FirstForm) -> Result<Numbering, AllocError
     number(alloc, occurrences.as_slice())
 }
 
-// The names in the order of the canonical symbols.
-fn order_of(alloc: Global, numbering: &Numbering) -> Result<Vec<u64>, AllocError>
-    ensures { IfOk result (λ v. v.items ≡ numbering.now.order.keys) }
-{
-    let mut order = Vec::new(alloc);
-    for name in numbering.order.iter() {
-        order.push(*name)?;
-    }
-    Ok(order)
-}
-
 // The answer of the written search on the implication between canonical symbols, of which there are so many. The
 // conclusion's place stands behind the hypotheses'.
 fn answer_to(alloc: Global, places: &[u64], symbols: usize) -> Result<Answer, Memory>
@@ -64,9 +53,9 @@ pub fn judge(alloc: Global, name: &[u8], form: &FirstForm) -> Result<Judged, Mem
     ensures proved { IfOk result (λ j. j.proved ≡ is_proved (answer_of form.now)) }
 {
     let numbering = numbering_of(alloc, form)?;
-    let order = order_of(alloc, &numbering)?;
+    let order = numbering.order.as_slice();
     let answer = answer_to(alloc, numbering.places.as_slice(), order.len())?;
     let proved = is_proved(&answer);
-    let report = report(alloc, name, form, order.as_slice(), &answer)?;
+    let report = report(alloc, name, form, order, &answer)?;
     Ok(Judged { report, proved })
 }

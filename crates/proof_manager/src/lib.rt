@@ -9,11 +9,15 @@ mod judge;
 mod load;
 mod numbering;
 mod report;
-mod run;
+
 mod status;
+mod top;
 mod valuation;
 mod words;
 
-pub use run::run;
+pub use top::run;
 pub use status::Status;
 pub use tla_ast::{Kind, Place};
+
+#[cfg(test)]
+mod tests;

@@ -1,7 +1,6 @@
-ghost use Rattle.std.specs.Prelude.{◌≡◌, ◌++◌, ◌<◌, length, map, codes, decimal, IfOk, OnOk};
-ghost use Rattle.std.specs.List.{All};
+ghost use Rattle.std.specs.Prelude.{◌≡◌, ◌++◌, length, map, codes, decimal, IfOk, OnOk};
 ghost use Rattle.first_form.specs.Form.{name_at};
-ghost use Rattle.proof_manager.specs.Report.{HasValues, is_proved, line, status_text, count_text, verdict_text, report};
+ghost use Rattle.proof_manager.specs.Report.{HasValues, is_proved, line, status_text, count_text, valuation_text, verdict_text, report};
 
 use crate::status::push_number;
 use crate::valuation::push_valuation;
@@ -35,6 +34,22 @@ fn push_turns(out: &mut Vec<u8>, verdict: &[u8], turns: u64) -> Result<(), Alloc
     out.extend_from_slice(b" turns")
 }
 
+// Appends what is printed of a saturated answer.
+fn push_saturated(
+    out: &mut Vec<u8>,
+    constants: &[Text],
+    places: &[u64],
+    values: &[bool],
+    turns: u64,
+) -> Result<(), AllocError>
+    requires { length values.now ≡ length places.now }
+    ensures { OnOk result (out.new.items ≡ out.old.items ++ (codes "saturated, " ++ decimal turns ++ codes " turns" ++ codes ": " ++ valuation_text (map (name_at constants.now) places.now) values.now)) }
+{
+    push_turns(out, b"saturated, ", turns)?;
+    out.extend_from_slice(b": ")?;
+    push_valuation(out, constants, places, values)
+}
+
 // Appends what is printed of an answer.
 fn push_verdict(
     out: &mut Vec<u8>,
@@ -42,17 +57,14 @@ fn push_verdict(
     places: &[u64],
     answer: &Answer,
 ) -> Result<(), AllocError>
-    requires declared { All (λ p. p < length constants.now) places.now }
-    requires valued { HasValues (length places.now) answer.now }
+    requires { HasValues (length places.now) answer.now }
     ensures { OnOk result (out.new.items ≡ out.old.items ++ verdict_text (map (name_at constants.now) places.now) answer.now) }
 {
     match answer {
         Answer::Proved { turns } => push_turns(out, b"proved, ", *turns),
         Answer::Spent { turns } => push_turns(out, b"spent, ", *turns),
         Answer::Saturated { values, turns } => {
-            push_turns(out, b"saturated, ", *turns)?;
-            out.extend_from_slice(b": ")?;
-            push_valuation(out, constants, places, values.as_slice())
+            push_saturated(out, constants, places, values.as_slice(), *turns)
         }
     }
 }
@@ -78,8 +90,7 @@ fn push_leaf(
     places: &[u64],
     answer: &Answer,
 ) -> Result<(), AllocError>
-    requires declared { All (λ p. p < length form.now.constants) places.now }
-    requires valued { HasValues (length places.now) answer.now }
+    requires { HasValues (length places.now) answer.now }
     ensures { OnOk result (out.new.items ≡ out.old.items ++ line (codes "  leaf 3:" ++ decimal form.now.obvious_column ++ codes " " ++ verdict_text (map (name_at form.now.constants) places.now) answer.now)) }
 {
     out.extend_from_slice(b"  leaf 3:")?;
@@ -89,17 +100,28 @@ fn push_leaf(
     out.extend_from_slice(b"\n")
 }
 
+// What the last line says.
+fn count_of(is_proved: bool) -> &'static [u8]
+    ensures { result.now ≡ count_text is_proved }
+{
+    if is_proved {
+        b"1 theorems, 1 proved"
+    } else {
+        b"1 theorems, 0 proved"
+    }
+}
+
 // Appends the last line.
 fn push_count(out: &mut Vec<u8>, answer: &Answer) -> Result<(), AllocError>
     ensures { OnOk result (out.new.items ≡ out.old.items ++ line (count_text (is_proved answer.now))) }
 {
-    let count: &[u8] = if is_proved(answer) { b"1" } else { b"0" };
-    out.extend_from_slice(b"1 theorems, ")?;
-    push_line(out, count, b" proved")
+    out.extend_from_slice(count_of(is_proved(answer)))?;
+    out.extend_from_slice(b"\n")
 }
 
 /// The report on the theorem of a text of the form: its leaf has this answer, and the constants at these places are the
 /// canonical symbols in order.
+#[tactic(auto, unfolding(crate::specs::Report::report))]
 pub fn report(
     alloc: Global,
     name: &[u8],
@@ -107,8 +129,7 @@ pub fn report(
     places: &[u64],
     answer: &Answer,
 ) -> Result<Vec<u8>, AllocError>
-    requires declared { All (λ p. p < length form.now.constants) places.now }
-    requires valued { HasValues (length places.now) answer.now }
+    requires { HasValues (length places.now) answer.now }
     ensures { IfOk result (λ v. v.items ≡ report name.now form.now.theorem form.now.obvious_column (map (name_at form.now.constants) places.now) answer.now) }
 {
     let mut out = Vec::new(alloc);

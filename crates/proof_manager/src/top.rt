@@ -1,7 +1,7 @@
 ghost use Rattle.std.specs.Prelude.{◌≡◌, map, string_bytes};
 ghost use Rattle.first_form.specs.Form.{IsLawful};
 ghost use Rattle.proof_manager.specs.Words.{root_of};
-ghost use Rattle.proof_manager.specs.Causes.{IsAbsence, IsRefusal, WordsCause, MapCause, Justified, ShelfCause, SinkCause, IsUnwritten, IsUntouched, Writes};
+ghost use Rattle.proof_manager.specs.Causes.{IsAbsence, IsRefusal, IsJust, WordsCause, MapCause, Justified, ShelfCause, SinkCause, IsUnwritten, IsUntouched, Writes};
 
 use crate::judge::judge;
 use crate::load::{LoadFault, load};
@@ -9,7 +9,9 @@ use crate::status::Status;
 use crate::words::root;
 use core_expr::Text;
 use first_form::FirstForm;
+use seq_calculus::substitution;
 use std::alloc::Global;
+use tableau_definition::{closed_derives, falsifies_by_number, saturated_falsifies};
 use tla_ast::{Kind, Place};
 use tla_io::{CacheFile, Shelf, Sink, write_whole};
 
@@ -44,9 +46,14 @@ fn refused(alloc: Global, name: &str) -> Status
 fn answer<K: Sink>(alloc: Global, name: &str, form: &FirstForm, out: &mut K) -> Status
     requires { IsLawful form.now }
     ensures report { Writes result name.now form.now (K.taken out.old) (K.taken out.new) }
+    ensures just { IsJust result form.now }
     ensures sink { SinkCause result (K.count out.old) (K.count out.new) }
     ensures unwritten { IsUnwritten result out.old out.new }
 {
+    closed_derives();
+    substitution();
+    saturated_falsifies();
+    falsifies_by_number();
     let Ok(judged) = judge(alloc, name.as_bytes(), form) else {
         return Status::Memory;
     };
