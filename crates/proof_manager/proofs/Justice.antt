@@ -82,7 +82,7 @@ placed seen [] ms = ([], tt)
 placed seen (n ∷ ns) ms =
     let rest = placed (insert_key nat_eq seen n) ns ms in
     let here = found n (insert_all nat_eq (insert_all nat_eq (insert_key nat_eq seen n) ns) ms)
-        (any-all n (insert_all nat_eq (insert_key nat_eq seen n) ns) ms (any-all n (insert_key nat_eq seen n) ns (any-inserted n seen))) in
+    (any-all n (insert_all nat_eq (insert_key nat_eq seen n) ns) ms (any-all n (insert_key nat_eq seen n) ns (any-inserted n seen))) in
     (here.0 ∷ rest.0, (here.1, rest.1))
 
 -- the constant of each canonical symbol
@@ -142,8 +142,8 @@ over hs c =
       below = below order hs (take (length hs) ps) k.0;
       last_below = get_below order (slice_index_or ps (length hs) 0) c k.1;
       back = ap (sub (restore order)) form
-        ∙ sub-implication (restore order) (map numeral (take (length hs) ps)) (numeral (slice_index_or ps (length hs) 0))
-        ∙ (λ i. implication (restore-numerals order hs (take (length hs) ps) k.0 i) (restore-numeral order (slice_index_or ps (length hs) 0) c k.1 i));
+          ∙ sub-implication (restore order) (map numeral (take (length hs) ps)) (numeral (slice_index_or ps (length hs) 0))
+          ∙ (λ i. implication (restore-numerals order hs (take (length hs) ps) k.0 i) (restore-numeral order (slice_index_or ps (length hs) 0) c k.1 i));
     }
 
 conjunction-scoped : (t : Tree) (ps : List ℕ) → IsScoped 0 t → IsScoped 0 (conjunction t (map numeral ps))
@@ -274,7 +274,7 @@ answer-is hs c order ps a q h e =
     let l0 : length ps ≡ suc (length hs) = places-length order (hs ++ c ∷ []) ps h ∙ length-more hs c in
     let l : length ps - 1 ≡ length hs = omega arith in
     let f : implication (map numeral (take (length ps - 1) ps)) (numeral (slice_index_or ps (length ps - 1) 0)) ≡ canonical t =
-      ap (λ n. implication (map numeral (take n ps)) (numeral (slice_index_or ps n 0))) l ∙ sym (canonical-statement hs c ps h1) in
+    ap (λ n. implication (map numeral (take n ps)) (numeral (slice_index_or ps n 0))) l ∙ sym (canonical-statement hs c ps h1) in
     let n : length order ≡ length (symbol_order t) = ap length q ∙ sym (order-length hs c) in
     e ∙ (λ i. answer_for (n i) (search false (n i) [] (f i) turn_limit))
 

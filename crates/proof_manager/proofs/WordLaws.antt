@@ -5,7 +5,6 @@ use Rattle.core_expr.specs.Terms.{lists_equal}
 use Rattle.core_expr.proofs.Equal.{lists-same}
 use Rattle.proof_manager.specs.Words.{without_ending}
 
-
 longer : (c : ℕ) (cs : List ℕ) (b : Bool) → lists_equal (c ∷ (cs ++ codes ".tla")) (codes ".tla") ≡ b → b ≡ false
 longer c cs true e =
     let same : c ∷ (cs ++ codes ".tla") ≡ codes ".tla" = lists-same (c ∷ (cs ++ codes ".tla")) (codes ".tla") e in

@@ -9,15 +9,14 @@ mod judge;
 mod load;
 mod numbering;
 mod report;
-
 mod status;
 mod top;
 mod valuation;
 mod words;
 
-pub use top::run;
 pub use status::Status;
 pub use tla_ast::{Kind, Place};
+pub use top::run;
 
 #[cfg(test)]
 mod tests;

@@ -22,7 +22,9 @@ pub enum Status {
         kind: Kind,
     },
     /// There is no module of this name.
-    NotFound { name: Text },
+    NotFound {
+        name: Text,
+    },
     /// A module could not be read.
     ReadFault,
     /// The report could not be written whole; what was taken is its front.
@@ -40,16 +42,11 @@ pub fn push_number(out: &mut Vec<u8>, number: u64) -> Result<(), AllocError>
 }
 
 // The text of a refusal.
-fn refusal(
-    alloc: Global,
-    module: &[u8],
-    place: Place,
-    kind: &[u8],
-) -> Result<Vec<u8>, AllocError>
-    ensures { IfOk result (λ v. v.items ≡ codes "refused " ++ module.now ++ codes " " ++ decimal place.line ++ codes ":" ++ decimal place.column ++ codes " " ++ kind.now) }
+fn refusal(alloc: Global, name: &[u8], place: Place, kind: &[u8]) -> Result<Vec<u8>, AllocError>
+    ensures { IfOk result (λ v. v.items ≡ codes "refused " ++ name.now ++ codes " " ++ decimal place.line ++ codes ":" ++ decimal place.column ++ codes " " ++ kind.now) }
 {
     let mut out = Vec::from_slice(alloc, b"refused ")?;
-    out.extend_from_slice(module)?;
+    out.extend_from_slice(name)?;
     out.extend_from_slice(b" ")?;
     push_number(&mut out, place.line)?;
     out.extend_from_slice(b":")?;

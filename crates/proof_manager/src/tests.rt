@@ -40,9 +40,11 @@ fn shown(alloc: Global, case: &Case) -> Result<(u8, Vec<u8>, Text), Fail> {
     Ok((ran.status.code(), ran.taken, text))
 }
 
-const IMPLIES_ITSELF: &[u8] = b"---- MODULE M ----\nCONSTANT A\nTHEOREM T == A => A OBVIOUS\n====\n";
+const IMPLIES_ITSELF: &[u8] =
+    b"---- MODULE M ----\nCONSTANT A\nTHEOREM T == A => A OBVIOUS\n====\n";
 
-const OPEN: &[u8] = b"---- MODULE M ----\nCONSTANTS A, B, C\nTHEOREM T == A /\\ B => C OBVIOUS\n====";
+const OPEN: &[u8] =
+    b"---- MODULE M ----\nCONSTANTS A, B, C\nTHEOREM T == A /\\ B => C OBVIOUS\n====";
 
 #[test]
 fn an_implication_to_itself_is_proved(rt: HostRuntime) -> Result<(), Fail> {
@@ -53,7 +55,8 @@ fn an_implication_to_itself_is_proved(rt: HostRuntime) -> Result<(), Fail> {
         room: 200,
     };
     let (code, taken, text) = shown(rt.alloc(), &case)?;
-    let report: &[u8] = b"module M\ntheorem T 3:1 proved\n  leaf 3:21 proved, 2 turns\n1 theorems, 1 proved\n";
+    let report: &[u8] =
+        b"module M\ntheorem T 3:1 proved\n  leaf 3:21 proved, 2 turns\n1 theorems, 1 proved\n";
     assert_eq!(rt; code, 0);
     assert_eq!(rt; taken.as_slice(), report);
     assert_eq!(rt; text.bytes(), b"".as_slice());
@@ -69,7 +72,8 @@ fn an_open_implication_has_a_valuation(rt: HostRuntime) -> Result<(), Fail> {
         room: 200,
     };
     let (code, taken, text) = shown(rt.alloc(), &case)?;
-    let report: &[u8] = b"module M\ntheorem T 3:1 unproved\n  leaf 3:26 saturated, 2 turns: A = TRUE, B = TRUE, C = FALSE\n1 theorems, 0 proved\n";
+    let report: &[u8] =
+        b"module M\ntheorem T 3:1 unproved\n  leaf 3:26 saturated, 2 turns: A = TRUE, B = TRUE, C = FALSE\n1 theorems, 0 proved\n";
     assert_eq!(rt; code, 1);
     assert_eq!(rt; taken.as_slice(), report);
     assert_eq!(rt; text.bytes(), b"".as_slice());
@@ -79,11 +83,35 @@ fn an_open_implication_has_a_valuation(rt: HostRuntime) -> Result<(), Fail> {
 #[test]
 fn each_refusal_has_its_status_and_text(rt: HostRuntime) -> Result<(), Fail> {
     let table: [(&[u8], &str, &[u64], u64, u8, &[u8], &[u8]); 7] = [
-        (b"hello", "M", &[], 200, 3, b"", b"refused M 1:1 Unsupported form"),
-        (b"", "M", &[], 200, 3, b"", b"refused M 1:1 Unsupported form"),
+        (
+            b"hello",
+            "M",
+            &[],
+            200,
+            3,
+            b"",
+            b"refused M 1:1 Unsupported form",
+        ),
+        (
+            b"",
+            "M",
+            &[],
+            200,
+            3,
+            b"",
+            b"refused M 1:1 Unsupported form",
+        ),
         (IMPLIES_ITSELF, "N", &[], 200, 4, b"", b"not found N"),
         (IMPLIES_ITSELF, "M", &[0], 200, 5, b"", b"read fault"),
-        (IMPLIES_ITSELF, "M", &[], 10, 7, b"module M\nt", b"write fault"),
+        (
+            IMPLIES_ITSELF,
+            "M",
+            &[],
+            10,
+            7,
+            b"module M\nt",
+            b"write fault",
+        ),
         (IMPLIES_ITSELF, "M.tla.tla", &[], 200, 2, b"", b"words"),
         (IMPLIES_ITSELF, "MODULE", &[], 200, 2, b"", b"words"),
     ];

@@ -9,6 +9,7 @@ use tla_io::{FileCache, FileShelf, StdSink};
 
 /// The exit status for want of memory, and its text.
 const MEMORY: u8 = 9;
+
 const MEMORY_TEXT: &[u8] = b"memory";
 
 // Prints the text of a status on standard error, where it is not empty. Nothing can be told where that fails.
