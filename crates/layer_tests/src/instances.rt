@@ -27,7 +27,7 @@ fn size_for_three(alloc: Global, schema: u64, number: u64) -> Result<u64, Memory
 #[test]
 fn instances_of_three_constants(rt: HostRuntime) -> Result<(), Fail> {
     // a schema, its number, and how many nodes the instance has
-    let rows: [[u64; 3]; 9] = [
+    let rows: [[u64; 3]; 10] = [
         [0, 0, 0],
         [1, 0, 13],
         [2, 0, 13],
@@ -35,6 +35,7 @@ fn instances_of_three_constants(rt: HostRuntime) -> Result<(), Fail> {
         [5, 0, 0],
         [14, 0, 9],
         [20, 1, 8],
+        [21, 2, 8],
         [21, 4, 0],
         [23, 0, 0],
     ];
