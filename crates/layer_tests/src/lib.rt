@@ -1,0 +1,13 @@
+//! Tests which call the public functions of the lower layers with ample memory: renaming, the instances of schemas, and
+//! proofs as flat lists. They are kept in one crate since each test is proved too, so that the lower crates are proved
+//! without them. It has no public items.
+#![tactic(auto)]
+
+#[cfg(test)]
+mod flat;
+#[cfg(test)]
+mod instances;
+#[cfg(test)]
+mod nodes;
+#[cfg(test)]
+mod renaming;
