@@ -1,0 +1,6 @@
+mod Rows
+mod Laws
+mod FlatLaws
+mod FaultLaws
+mod MachineLaws
+mod StackLemmas
