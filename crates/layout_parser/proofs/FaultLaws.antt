@@ -1,14 +1,14 @@
 -- Where the fault of a chain stands.
-use Rattle.std.proofs.Common.{◌≡◌, Bool, true, false, ◌&&◌, cond, List, [], ◌∷◌, ◌++◌, Option, Some, None, refl, sym, ap, ◌∙◌, inl, inr, ◌⊎◌, ◌↔◌, subst, append_assoc, ℕ}
-use Rattle.std.proofs.lemmas.Bool.{true≢false, false≢true, cond-true, cond_both}
+use Rattle.std.proofs.Common.{◌≡◌, Bool, true, false, ◌&&◌, cond, List, [], ◌∷◌, ◌++◌, Option, Some, None, refl, sym, ap, ◌∙◌, inl, inr, ◌⊎◌, subst, append_assoc, ℕ}
+use Rattle.std.proofs.lemmas.Bool.{false≢true, cond-true, cond_both}
 use Rattle.std.proofs.lemmas.Option.{cond_some}
 use Rattle.tla_ast.specs.declared.place.Place.{Place}
 use Rattle.tla_ast.specs.declared.tree.Node.{Node}
 use Rattle.layout_parser.specs.declared.chain.Operator.{Operator}
 use Rattle.layout_parser.specs.declared.chain.Piece.{Piece}
 use Rattle.layout_parser.specs.declared.chain.Piece.TheVariants as piece
-use Rattle.layout_parser.specs.Tree.{Tree, leaf, prefixed, suffixed, joined, flat, stands, before_infix, is_right}
-use Rattle.layout_parser.specs.Chain.{plain, filled, put, grown, shape_from, shape, tree_of, fault_of, place_of, or_else, wrong_at, first_wrong, first_wrong_from, IsChain, IsWhole, HasRightTree, is_waiting, finished, up_to, FaultAt, FirstFault}
+use Rattle.layout_parser.specs.Tree.{Tree, leaf, prefixed, suffixed, joined, stands, before_infix, is_right}
+use Rattle.layout_parser.specs.Chain.{plain, filled, put, grown, shape_from, shape, tree_of, fault_of, place_of, or_else, wrong_at, first_wrong, first_wrong_from, IsChain, IsWhole, HasRightTree, is_waiting, finished, FaultAt, FirstFault}
 use Rattle.layout_parser.specs.Listed.{AreListed}
 use Rattle.layout_parser.proofs.Rows.{row_of, listed-split, listed-tree}
 use Rattle.layout_parser.proofs.Laws.{tree_of-right, cond-false}

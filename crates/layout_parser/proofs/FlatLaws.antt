@@ -1,15 +1,13 @@
 -- The tree of a chain has the pieces of the chain, in order.
-use Rattle.std.proofs.Common.{◌≡◌, ℕ, Bool, true, false, cond, List, [], ◌∷◌, ◌++◌, Some, None, refl, sym, ap, ◌∙◌, append_assoc, append-nil}
-use Rattle.std.proofs.lemmas.Bool.{cond_both, true≢false}
+use Rattle.std.proofs.Common.{◌≡◌, Bool, true, false, List, [], ◌∷◌, ◌++◌, Some, refl, sym, ap, ◌∙◌, append_assoc, append-nil}
+use Rattle.std.proofs.lemmas.Bool.{cond_both}
 use Rattle.std.proofs.lemmas.Option.{cond_some}
 use Rattle.layout_parser.specs.declared.chain.Operator.{Operator}
-use Rattle.tla_ast.specs.declared.tree.Node.{Node}
 use Rattle.layout_parser.specs.declared.chain.Piece.{Piece}
 use Rattle.layout_parser.specs.declared.chain.Piece.TheVariants as piece
 use Rattle.layout_parser.specs.Tree.{Tree, leaf, prefixed, suffixed, joined, flat, before_infix, is_right}
-use Rattle.layout_parser.specs.Chain.{plain, filled, put, behind, grown, shape_from, shape, tree_of, IsWhole, OneRightTree}
+use Rattle.layout_parser.specs.Chain.{plain, filled, put, behind, shape_from, shape, tree_of, IsWhole, OneRightTree}
 use Rattle.layout_parser.specs.declared.chain.Suffix.{Suffix}
-use Rattle.layout_parser.specs.Listed.{AreListed}
 use Rattle.layout_parser.proofs.Rows.{row_of, listed-tree}
 use Rattle.layout_parser.proofs.Laws.{tree_of-right}
 

@@ -1,12 +1,11 @@
 -- A right tree is the tree of its chain.
-use Rattle.std.proofs.Common.{◌≡◌, ℕ, ◌+◌, ◌<◌, ◌≤◌, Bool, true, false, ◌&&◌, ◌||◌, cond, nat_lt, List, [], ◌∷◌, ◌++◌, Some, None, refl, sym, ap, ◌∙◌, inl, inr, ◌⊎◌, subst, arith, append_assoc, append-nil}
-use Rattle.std.proofs.lemmas.Bool.{true≢false, false≢true, and_parts, and_left, and_right, and_from, or_cases, ltb-true, ltb-false, lt-ltb, le-ltb, cond-true}
+use Rattle.std.proofs.Common.{◌≡◌, ℕ, ◌<◌, ◌≤◌, Bool, true, false, ◌&&◌, ◌||◌, cond, nat_lt, List, [], ◌∷◌, ◌++◌, Some, None, refl, sym, ap, ◌∙◌, inl, inr, ◌⊎◌, subst, arith, append_assoc, append-nil}
+use Rattle.std.proofs.lemmas.Bool.{true≢false, and_parts, and_left, and_right, or_cases, ltb-true, lt-ltb, le-ltb, cond-true}
 use Rattle.layout_parser.specs.declared.chain.Operator.{Operator}
-use Rattle.tla_ast.specs.declared.tree.Node.{Node}
 use Rattle.layout_parser.specs.declared.chain.Piece.{Piece}
 use Rattle.layout_parser.specs.declared.chain.Piece.TheVariants as piece
 use Rattle.layout_parser.specs.Tree.{Tree, leaf, prefixed, suffixed, joined, flat, stands, over, before_infix, is_right}
-use Rattle.layout_parser.specs.Chain.{plain, filled, put, behind, grown, shape_from, shape, tree_of}
+use Rattle.layout_parser.specs.Chain.{plain, filled, put, behind, shape_from, shape, tree_of}
 use Rattle.std.specs.Str.{bytes_eq}
 use Rattle.layout_parser.specs.declared.chain.Suffix.{Suffix}
 use Rattle.layout_parser.proofs.Rows.{IsInfix, IsPrefix, IsPostfix, Listed, same-sign, other-sign}

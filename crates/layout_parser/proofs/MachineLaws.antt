@@ -1,19 +1,17 @@
 -- The stack gives the tree of the chain, and the place that is wrong.
-use Rattle.std.proofs.Common.{◌≡◌, ℕ, ◌+◌, ◌<◌, ◌≤◌, Bool, true, false, ◌&&◌, ◌||◌, cond, nat_lt, List, [], ◌∷◌, ◌++◌, Option, Some, None, refl, sym, ap, ◌∙◌, inl, inr, ◌⊎◌, subst, arith}
-use Rattle.std.proofs.lemmas.Bool.{true≢false, false≢true, and_parts, and_left, and_right, and_from, or_cases, ltb-true, ltb-false, lt-ltb, le-ltb, cond-true, cond_both, cases_Bool}
+use Rattle.std.proofs.Common.{◌≡◌, ℕ, ◌<◌, ◌≤◌, Bool, true, false, ◌&&◌, ◌||◌, cond, nat_lt, List, [], ◌∷◌, Option, Some, None, refl, sym, ap, ◌∙◌, arith}
+use Rattle.std.proofs.lemmas.Bool.{true≢false, false≢true, and_parts, and_left, and_from, ltb-true, lt-ltb, cond_both}
 use Rattle.std.proofs.Math.Bool.{and-true}
 use Rattle.layout_parser.specs.declared.chain.Operator.{Operator}
-use Rattle.tla_ast.specs.declared.tree.Node.{Node}
 use Rattle.layout_parser.specs.declared.chain.Piece.{Piece}
 use Rattle.layout_parser.specs.declared.chain.Piece.TheVariants as piece
-use Rattle.layout_parser.specs.Tree.{Tree, leaf, prefixed, suffixed, joined, flat, stands, over, before_infix, is_right}
-use Rattle.layout_parser.specs.Chain.{plain, filled, put, behind, grown, shape_from, shape, tree_of, fault_of, wrong_at, first_wrong, first_wrong_from, or_else, place_of, IsChain}
+use Rattle.layout_parser.specs.Tree.{Tree, leaf, prefixed, suffixed, joined, stands, over, before_infix, is_right}
+use Rattle.layout_parser.specs.Chain.{plain, filled, put, grown, shape_from, shape, tree_of, fault_of, wrong_at, first_wrong_from, or_else, IsChain}
 use Rattle.layout_parser.specs.Machine.{Frame, in_prefixed, in_joined, around, plug, operator_of, is_same, stands_inner, popped, State, is_alive, noted, with_infix, moved, moved_all, start}
 use Rattle.std.specs.Str.{bytes_eq}
 use Rattle.tla_ast.specs.declared.place.Place.{Place}
-use Rattle.layout_parser.specs.declared.chain.Suffix.{Suffix}
-use Rattle.layout_parser.proofs.Rows.{IsInfix, IsPrefix, IsPostfix, Listed, ListedPiece, ListedPieces}
-use Rattle.layout_parser.proofs.Laws.{IsUnit, filled-plug, behind-plug, put-plug, put-around, put-over, stands-left, unit-behind, neither, cond-false}
+use Rattle.layout_parser.proofs.Rows.{IsInfix, IsPrefix, Listed, ListedPiece, ListedPieces}
+use Rattle.layout_parser.proofs.Laws.{IsUnit, filled-plug, behind-plug, put-plug, put-around, put-over, stands-left, unit-behind, neither}
 use Rattle.layout_parser.proofs.FaultLaws.{right_tree}
 
 -- ---- a right context

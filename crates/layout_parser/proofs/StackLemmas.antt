@@ -1,12 +1,11 @@
 -- The stack as it lies in the code.
-use Rattle.std.proofs.Common.{◌≡◌, ℕ, Bool, true, false, ◌&&◌, Option, Some, None, cond, nat_lt, List, [], ◌∷◌, ◌++◌, length, refl, sym, ap, ◌∙◌, arith, length-append}
-use Rattle.std.proofs.lemmas.Bool.{true≢false, cond-true}
+use Rattle.std.proofs.Common.{◌≡◌, Bool, true, false, ◌&&◌, Some, cond, nat_lt, List, [], ◌∷◌, ◌++◌, refl, sym, ap, ◌∙◌}
+use Rattle.std.proofs.lemmas.Bool.{cond-true}
 use Rattle.std.proofs.lemmas.List.{same_from_push}
 use Rattle.layout_parser.specs.declared.chain.Operator.{Operator}
 use Rattle.tla_ast.specs.declared.tree.Node.{Node}
 use Rattle.layout_parser.specs.declared.stack.Open.{Open}
 use Rattle.layout_parser.specs.declared.stack.Open.TheVariants as opened
-use Rattle.layout_parser.specs.declared.chain.Piece.{Piece}
 use Rattle.layout_parser.specs.declared.chain.Piece.TheVariants as piece
 use Rattle.layout_parser.specs.declared.stack.Stack.{Stack}
 use Rattle.layout_parser.specs.Tree.{Tree, node_of, joined, hole}

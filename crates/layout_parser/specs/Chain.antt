@@ -1,7 +1,6 @@
 -- A chain is read as its one right tree.
 use Rattle.std.specs.Prelude.{◌≡◌, Bool, true, false, if◌then◌else◌, List, [], ◌∷◌, ◌++◌, Option, Some, None, ◌↔◌}
 use Rattle.layout_parser.specs.declared.chain.Operator.{Operator}
-use Rattle.tla_ast.specs.declared.tree.Node.{Node}
 use Rattle.layout_parser.specs.declared.chain.Piece.{Piece}
 use Rattle.layout_parser.specs.declared.chain.Piece.TheVariants as piece
 use Rattle.layout_parser.specs.Listed.{AreListed}

@@ -1,4 +1,4 @@
-use Rattle.std.proofs.Common.{◌≡◌, sym, ◌∙◌, ap}
+use Rattle.std.proofs.Common.{sym, ◌∙◌, ap}
 use Rattle.layout_parser.specs.Tree.{node_of}
 use Rattle.layout_parser.proofs.StackLemmas.{close, all-closed}
 use Rattle.layout_parser.proofs.stack.close_all.Goals as goal

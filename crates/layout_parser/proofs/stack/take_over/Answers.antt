@@ -1,7 +1,6 @@
-use Rattle.std.proofs.Common.{◌≡◌, List, [], true, false, nat_lt, ap, ◌∙◌, sym}
+use Rattle.std.proofs.Common.{◌≡◌, true, false, nat_lt, ap, ◌∙◌, sym}
 use Rattle.std.proofs.lemmas.Bool.{lt-ltb, le-ltb}
-use Rattle.layout_parser.specs.Tree.{Tree}
-use Rattle.layout_parser.specs.Machine.{Frame, popped, Keeps, operator_in}
+use Rattle.layout_parser.specs.Machine.{operator_in}
 use Rattle.layout_parser.proofs.StackLemmas.{turn, emptied}
 use Rattle.layout_parser.proofs.stack.take_over.Goals as goal
 

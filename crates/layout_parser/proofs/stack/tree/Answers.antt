@@ -1,7 +1,7 @@
-use Rattle.std.proofs.Common.{◌≡◌, Bool, cond, Option, Some, None, sym, ◌∙◌, ap}
+use Rattle.std.proofs.Common.{◌≡◌, cond, Option, Some, None, sym, ◌∙◌, ap}
 use Rattle.tla_ast.specs.declared.place.Place.{Place}
-use Rattle.layout_parser.specs.Chain.{tree_of, fault_of}
-use Rattle.layout_parser.specs.Machine.{moved_all, start, plug, Shows, is_alive}
+use Rattle.layout_parser.specs.Chain.{fault_of}
+use Rattle.layout_parser.specs.Machine.{moved_all, start, plug, Shows}
 use Rattle.layout_parser.proofs.Rows.{row_of, listed-pieces}
 use Rattle.layout_parser.proofs.MachineLaws.{answer_ok, answer_told}
 use Rattle.layout_parser.proofs.FaultLaws.{none_tree}

@@ -1,5 +1,4 @@
-use Rattle.std.proofs.Common.{◌≡◌, sym, ◌∙◌, refl}
-use Rattle.layout_parser.specs.Machine.{popped, Keeps}
+use Rattle.std.proofs.Common.{◌∙◌, refl}
 use Rattle.layout_parser.proofs.StackLemmas.{shows-infix}
 use Rattle.layout_parser.proofs.stack.Stack.infix.Goals as goal
 
