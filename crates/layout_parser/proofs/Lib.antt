@@ -4,3 +4,4 @@ mod FlatLaws
 mod FaultLaws
 mod MachineLaws
 mod StackLemmas
+mod Pushed

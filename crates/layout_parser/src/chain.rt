@@ -1,9 +1,13 @@
 //! Chains of operands and operators.
 
+ghost use Rattle.std.specs.Prelude.{◌≡◌, false, Some, None, IfOk, MatchOption};
+ghost use Rattle.std_names.specs.Operators as table;
 ghost use Rattle.layout_parser.specs.Chain.{OneRightTree, FirstFault};
+ghost use Rattle.layout_parser.specs.Listed.{IsListed, sign_of};
 
-use core_expr::Text;
-use std::alloc::AllocError;
+use core_expr::{Memory, Text};
+use std::alloc::{AllocError, Global};
+use std_names::{Fix, operator};
 use tla_ast::{Node, Place};
 
 /// A prefix or an infix operator, with its row of the table of operators and its place.
@@ -34,6 +38,62 @@ pub struct Suffix {
     pub low: u64,
     pub high: u64,
     pub place: Place,
+}
+
+impl Operator {
+    /// The operator of the table with this sign, prefix or infix as `fix` says; None exactly where the table has none.
+    pub fn find(
+        alloc: Global,
+        sign: &[u8],
+        fix: Fix,
+        place: Place,
+    ) -> Result<Option<Operator>, Memory>
+        ensures { IfOk result (λ r. MatchOption r (table.operator sign.now fix ≡ None)
+            (λ o. (table.operator o.sign fix ≡ Some (o.low, o.high, o.is_left)) × (o.sign ≡ sign.now) × (o.place ≡ place))) }
+    {
+        match operator(sign, fix) {
+            Some((low, high, is_left)) => {
+                let sign = Text::of(alloc, sign)?;
+                Ok(Some(Operator {
+                    sign,
+                    low,
+                    high,
+                    is_left,
+                    place,
+                }))
+            }
+            None => Ok(None),
+        }
+    }
+}
+
+impl Ending {
+    fn precedence(&self) -> u64
+        ensures { table.operator (sign_of self.now) Fix.Postfix ≡ Some (result, result, false) }
+    {
+        match self {
+            Ending::Prime => 15,
+            Ending::Index(_) => 16,
+            Ending::Field(_) => 17,
+        }
+    }
+}
+
+impl Suffix {
+    /// The postfix operator with its row of the table.
+    pub fn new(ending: Ending, place: Place) -> Suffix
+        ensures listed { IsListed (Piece.Postfix result) }
+        ensures same_ending { result.ending ≡ ending }
+        ensures same_place { result.place ≡ place }
+    {
+        let precedence = ending.precedence();
+        Suffix {
+            ending,
+            low: precedence,
+            high: precedence,
+            place,
+        }
+    }
 }
 
 /// A piece of a chain. What stands in parentheses is an operand.

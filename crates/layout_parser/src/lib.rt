@@ -9,3 +9,6 @@ mod stack;
 
 pub use chain::{ChainFault, Ending, Operator, Piece, Suffix, first_fault, one_right_tree};
 pub use stack::tree;
+
+#[cfg(test)]
+mod tests;
