@@ -1,4 +1,3 @@
-use Rattle.std.proofs.Common.{◌≡◌}
 use Rattle.layout_parser.proofs.Pushed.{pushed}
 use Rattle.layout_parser.proofs.tests.chain_of.Goals as goal
 

@@ -1,4 +1,4 @@
-use Rattle.std.proofs.Common.{◌≡◌, ap, sym}
+use Rattle.std.proofs.Common.{ap}
 use Rattle.std_names.specs.declared.operators.Fix.TheVariants.{Postfix}
 use Rattle.std_names.specs.Operators.{operator, postfix_rows}
 use Rattle.layout_parser.specs.Listed.{sign_of}
