@@ -60,8 +60,8 @@ fn is_same(part: &Open, operator: &Operator) -> bool
     }
 }
 
-/// What stands for an operand that is still to come.
-fn plain(alloc: Global) -> Node
+/// A plain operand: what stands for an operand that is still to come, or for the argument of a `[e` that broke off.
+pub fn plain(alloc: Global) -> Node
     ensures { result ≡ hole }
 {
     Node {
@@ -286,7 +286,7 @@ fn run(alloc: Global, mut pieces: VecDeque<Piece>) -> Result<Stack, AllocError>
     Ok(stack)
 }
 
-/// The one right tree of a chain. The chain may break off where an operand must come: the fault, if any, is then that of
+/// The one right tree of a chain, in time linear in the chain and without recursion. The chain may break off where an operand must come: the fault, if any, is then that of
 /// what is there with a plain operand after it, and the node has a plain operand in that place.
 pub fn tree(alloc: Global, pieces: VecDeque<Piece>) -> Result<Node, ChainFault>
     requires chain { IsChain true pieces.items }
