@@ -20,6 +20,7 @@ IsListed (piece.Prefix p) = table.operator p.sign Prefix ≡ Some (p.low, p.high
 IsListed (piece.Infix o) = table.operator o.sign Infix ≡ Some (o.low, o.high, o.is_left)
 IsListed (piece.Postfix q) = table.operator (sign_of q.ending) Postfix ≡ Some (q.low, q.high, false)
 
+-- so has each operator of the chain
 abbrev pub AreListed : List Piece → Type 0
 AreListed [] = Unit {0}
 AreListed (x ∷ c) = IsListed x × AreListed c
