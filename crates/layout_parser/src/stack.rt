@@ -286,8 +286,11 @@ fn run(alloc: Global, mut pieces: VecDeque<Piece>) -> Result<Stack, AllocError>
     Ok(stack)
 }
 
-/// The one right tree of a chain, in time linear in the chain and without recursion. The chain may break off where an operand must come: the fault, if any, is then that of
+/// The one right tree of a chain. The chain may break off where an operand must come: the fault, if any, is then that of
 /// what is there with a plain operand after it, and the node has a plain operand in that place.
+///
+/// The time is linear in the chain, and the reading is a loop. The node is as deep as the operators nest, and to drop a node
+/// is a recursion, also where what was read is dropped at a fault.
 pub fn tree(alloc: Global, pieces: VecDeque<Piece>) -> Result<Node, ChainFault>
     requires chain { IsChain true pieces.items }
     requires listed { AreListed pieces.items }
