@@ -8,7 +8,7 @@ mod chain;
 mod stack;
 
 pub use chain::{ChainFault, Ending, Operator, Piece, Suffix, first_fault, one_right_tree};
-pub use stack::{plain, tree};
+pub use stack::{discard, plain, tree};
 
 #[cfg(test)]
 mod tests;

@@ -286,11 +286,45 @@ fn run(alloc: Global, mut pieces: VecDeque<Piece>) -> Result<Stack, AllocError>
     Ok(stack)
 }
 
+/// Drops a node with a loop over its parts, where the derived drop is a recursion. Where memory is short it falls back to
+/// that. What a form itself holds, as the sets of a quantifier, is dropped by recursion.
+pub fn discard(node: Node) {
+    let Node {
+        form: _,
+        parts: mut rest,
+        place: _,
+    } = node;
+    for _ in 0..u64::MAX {
+        match rest.pop() {
+            None => return,
+            Some(
+                Node {
+                    form: _,
+                    parts,
+                    place: _,
+                },
+            ) => {
+                let _ = rest.append(parts);
+            }
+        }
+    }
+}
+
+/// Drops what was read of a chain.
+fn discard_all(mut parts: Items<Open>, last: Node) {
+    discard(last);
+    while let Some(part) = parts.pop() {
+        if let Open::Infix(left, _) = part {
+            discard(left);
+        }
+    }
+}
+
 /// The one right tree of a chain. The chain may break off where an operand must come: the fault, if any, is then that of
 /// what is there with a plain operand after it, and the node has a plain operand in that place.
 ///
-/// The time is linear in the chain, and the reading is a loop. The node is as deep as the operators nest, and to drop a node
-/// is a recursion, also where what was read is dropped at a fault.
+/// The time is linear in the chain, and the reading is a loop. The node is as deep as the operators nest: drop a deep one by
+/// `discard`.
 pub fn tree(alloc: Global, pieces: VecDeque<Piece>) -> Result<Node, ChainFault>
     requires chain { IsChain true pieces.items }
     requires listed { AreListed pieces.items }
@@ -305,7 +339,10 @@ pub fn tree(alloc: Global, pieces: VecDeque<Piece>) -> Result<Node, ChainFault>
         wrong,
     } = run(alloc, pieces)?;
     match told(is_alive, wrong) {
-        Some(place) => Err(ChainFault::Precedence(place)),
+        Some(place) => {
+            discard_all(parts, last);
+            Err(ChainFault::Precedence(place))
+        }
         None => Ok(close_all(alloc, &mut parts, last)?),
     }
 }

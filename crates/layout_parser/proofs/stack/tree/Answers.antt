@@ -20,8 +20,8 @@ returns-in-Some-clause-wrong c = λ p e. (
     let is : fault_of pieces ≡ Some p = sym told ∙ c.in-Some.is ∙ ap Some same in
     (none_tree pieces p is, is))
 
-pub returns-clause-ok : goal.returns-clause-ok
-returns-clause-ok c =
+pub returns-in_ok-close_all-in-None-clause-ok : goal.returns-in_ok-close_all-in-None-clause-ok
+returns-in_ok-close_all-in-None-clause-ok c =
     let pieces = c.args.pieces.items in
     let s = moved_all start pieces in
     let shows : Shows s c.in_ok-parts.field-0 = c.in_ok-parts.ensures in
