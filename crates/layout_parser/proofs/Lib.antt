@@ -1,0 +1,7 @@
+mod Rows
+mod Laws
+mod FlatLaws
+mod FaultLaws
+mod MachineLaws
+mod StackLemmas
+mod Pushed
