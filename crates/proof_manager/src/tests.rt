@@ -6,6 +6,7 @@ use std::test::Fail;
 use tla_io::{MemCache, MemShelf, MemSink};
 
 // One run: the module M of the shelf has this text, the calls listed fail, and the words are the program's and this one.
+#[derive(Drop)]
 struct Case<'a> {
     text: &'a [u8],
     word: &'a str,
@@ -14,12 +15,13 @@ struct Case<'a> {
 }
 
 // What a run leaves: its status and the bytes that the sink took.
-struct Ran {
+#[derive(Drop)]
+struct Outcome {
     status: Status,
     taken: Vec<u8>,
 }
 
-fn ran(alloc: Global, case: &Case) -> Result<Ran, Fail> {
+fn ran(alloc: Global, case: &Case) -> Result<Outcome, Fail> {
     let mut words = Vec::new(alloc);
     words.push(String::from_str(alloc, "tla_prove")?)?;
     words.push(String::from_str(alloc, case.word)?)?;
@@ -30,7 +32,7 @@ fn ran(alloc: Global, case: &Case) -> Result<Ran, Fail> {
     let mut sink = MemSink::new(alloc, case.room, 7, Vec::new(alloc))?;
     let status = run(alloc, &words, &mut shelf, &mut cache, &mut sink);
     let taken = Vec::from_slice(alloc, sink.taken())?;
-    Ok(Ran { status, taken })
+    Ok(Outcome { status, taken })
 }
 
 // A run's exit status, what it wrote and what it says on standard error.
