@@ -1,6 +1,0 @@
-use Rattle.std.proofs.Common.{refl}
-use Rattle.layout_parser.specs.Machine.{start}
-use Rattle.layout_parser.proofs.stack.run.Goals as goal
-
-pub loop-piece-init : goal.loop-piece-init
-loop-piece-init c = (start, record { parts = c.new.ensures; last = c.plain.ensures; is_sound = refl; is_alive = refl; wrong = refl }, refl)
