@@ -5,9 +5,11 @@
 #![tactic(auto)]
 
 mod chain;
+mod outline;
 mod stack;
 
 pub use chain::{ChainFault, Ending, Operator, Piece, Suffix, first_fault, one_right_tree};
+pub use outline::has_tree;
 pub use stack::{discard, plain, tree};
 
 #[cfg(test)]

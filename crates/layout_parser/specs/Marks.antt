@@ -1,0 +1,153 @@
+-- What a token is to the reader of expressions.
+use Rattle.std.specs.Prelude.{ℕ, Bool, if◌then◌else◌, nat_eq, List, [], ◌∷◌, Option, codes}
+use Rattle.std.specs.Cmp.Lexicographic.{pointwise}
+use denote.Enum.Bare.{sameb}
+use Rattle.tla_ast.specs.declared.token.Tok.{Tok}
+use Rattle.tla_ast.specs.declared.token.Tok.TheVariants as tok
+use Rattle.std_names.specs.declared.operators.Fix.TheVariants.{Prefix}
+use Rattle.std_names.specs.Operators.{operator}
+use Rattle.layout_parser.specs.contracts.mark.Mark.{the_type}
+use Rattle.layout_parser.specs.declared.mark.Mark.{Mark}
+use Rattle.layout_parser.specs.declared.mark.Mark.TheVariants as m
+
+abbrev pub Text : Type 0
+Text = List ℕ
+
+-- the reserved words
+unfoldable pub words : List (Text × Mark)
+words =
+    (codes "ACTION", m.Refused) ∷
+    (codes "ASSUME", m.Assume) ∷
+    (codes "ASSUMPTION", m.Outside) ∷
+    (codes "AXIOM", m.Outside) ∷
+    (codes "BOOLEAN", m.Value) ∷
+    (codes "BY", m.Outside) ∷
+    (codes "CASE", m.Case) ∷
+    (codes "CHOOSE", m.Choose) ∷
+    (codes "CONSTANT", m.Outside) ∷
+    (codes "CONSTANTS", m.Outside) ∷
+    (codes "COROLLARY", m.Outside) ∷
+    (codes "DEF", m.Outside) ∷
+    (codes "DEFINE", m.Outside) ∷
+    (codes "DEFS", m.Outside) ∷
+    (codes "DOMAIN", m.Operator) ∷
+    (codes "ELSE", m.Else) ∷
+    (codes "ENABLED", m.Operator) ∷
+    (codes "EXCEPT", m.Except) ∷
+    (codes "EXTENDS", m.Outside) ∷
+    (codes "FALSE", m.Value) ∷
+    (codes "HAVE", m.Outside) ∷
+    (codes "HIDE", m.Outside) ∷
+    (codes "IF", m.If) ∷
+    (codes "IN", m.In) ∷
+    (codes "INSTANCE", m.Refused) ∷
+    (codes "LAMBDA", m.Refused) ∷
+    (codes "LEMMA", m.Outside) ∷
+    (codes "LET", m.Let) ∷
+    (codes "LOCAL", m.Refused) ∷
+    (codes "MODULE", m.Refused) ∷
+    (codes "NEW", m.Outside) ∷
+    (codes "OBVIOUS", m.Outside) ∷
+    (codes "OMITTED", m.Outside) ∷
+    (codes "ONLY", m.Outside) ∷
+    (codes "OTHER", m.Other) ∷
+    (codes "PICK", m.Outside) ∷
+    (codes "PROOF", m.Outside) ∷
+    (codes "PROPOSITION", m.Outside) ∷
+    (codes "PROVE", m.Outside) ∷
+    (codes "QED", m.Outside) ∷
+    (codes "RECURSIVE", m.Refused) ∷
+    (codes "STATE", m.Outside) ∷
+    (codes "STRING", m.Value) ∷
+    (codes "SUBSET", m.Operator) ∷
+    (codes "SUFFICES", m.Outside) ∷
+    (codes "TAKE", m.Outside) ∷
+    (codes "TEMPORAL", m.Refused) ∷
+    (codes "THEN", m.Then) ∷
+    (codes "THEOREM", m.Outside) ∷
+    (codes "TRUE", m.Value) ∷
+    (codes "UNCHANGED", m.Operator) ∷
+    (codes "UNION", m.Operator) ∷
+    (codes "USE", m.Outside) ∷
+    (codes "VARIABLE", m.Outside) ∷
+    (codes "VARIABLES", m.Outside) ∷
+    (codes "WITH", m.Outside) ∷
+    (codes "WITNESS", m.Outside) ∷ []
+
+-- the signs that expressions have, and those that stand between expressions
+unfoldable pub signs : List (Text × Mark)
+signs =
+    (codes "/\\", m.And) ∷
+    (codes "\\/", m.Or) ∷
+    (codes "~", m.Operator) ∷
+    (codes "=>", m.Operator) ∷
+    (codes "(", m.OpenParen) ∷
+    (codes ")", m.CloseParen) ∷
+    (codes ",", m.Comma) ∷
+    (codes "=", m.Equal) ∷
+    (codes "\\in", m.Belongs) ∷
+    (codes ":", m.Colon) ∷
+    (codes "[", m.OpenSquare) ∷
+    (codes "]", m.CloseSquare) ∷
+    (codes "{", m.OpenBrace) ∷
+    (codes "}", m.CloseBrace) ∷
+    (codes "<<", m.OpenAngle) ∷
+    (codes ">>", m.CloseAngle) ∷
+    (codes "==", m.Defines) ∷
+    (codes "'", m.Prime) ∷
+    (codes ".", m.Dot) ∷
+    (codes "\\A", m.Forall) ∷
+    (codes "\\E", m.Exists) ∷
+    (codes "|->", m.Maps) ∷
+    (codes "->", m.Arrow) ∷
+    (codes "!", m.Bang) ∷
+    (codes "@", m.At) ∷
+    (codes "[]", m.Always) ∷
+    (codes "]_", m.CloseBox) ∷
+    (codes ">>_", m.CloseAction) ∷
+    (codes "WF_", m.Weak) ∷
+    (codes "SF_", m.Strong) ∷
+    (codes "#", m.Operator) ∷
+    (codes "<", m.Operator) ∷
+    (codes ">", m.Operator) ∷
+    (codes "<=", m.Operator) ∷
+    (codes ">=", m.Operator) ∷
+    (codes "<=>", m.Operator) ∷
+    (codes "~>", m.Operator) ∷
+    (codes "..", m.Operator) ∷
+    (codes "+", m.Operator) ∷
+    (codes "-", m.Operator) ∷
+    (codes "*", m.Operator) ∷
+    (codes "\\", m.Operator) ∷
+    (codes "<>", m.Operator) ∷
+    (codes "\\notin", m.Operator) ∷
+    (codes "\\subseteq", m.Operator) ∷
+    (codes "\\cup", m.Operator) ∷
+    (codes "\\cap", m.Operator) ∷ []
+
+-- the mark of the first row with this text
+abbrev pub mark_in : List (Text × Mark) → Text → Mark → Mark
+mark_in [] text otherwise = otherwise
+mark_in (r ∷ rs) text otherwise = if pointwise nat_eq r.0 text then r.1 else mark_in rs text otherwise
+
+-- A word that is not reserved is a name. The lexer gives no signs but those above and those that the profile refuses.
+abbrev pub mark_of : Tok → Mark
+mark_of (tok.Word w) = mark_in words w m.Name
+mark_of (tok.Sign s) = mark_in signs s m.Refused
+mark_of (tok.Number n) = m.Number
+mark_of (tok.Str s) = m.Str
+mark_of _ = m.Outside
+
+-- the spelling of a word or a sign
+abbrev pub spelling : Tok → Text
+spelling (tok.Word w) = w
+spelling (tok.Sign s) = s
+spelling _ = []
+
+-- the precedence of a prefix operator, where the token is one
+abbrev pub prefix_row : Tok → Option (ℕ × ℕ × Bool)
+prefix_row t = operator (spelling t) Prefix
+
+-- `==` on marks
+unfoldable pub same_mark : Mark → Mark → Bool
+same_mark = sameb the_type

@@ -1,0 +1,177 @@
+//! Names with arguments, parentheses, angle brackets, subscripts.
+
+ghost use Rattle.std.specs.Prelude.{◌≡◌};
+ghost use Rattle.layout_parser.specs.Input as input;
+ghost use Rattle.layout_parser.specs.Input.{Reads};
+ghost use Rattle.layout_parser.specs.Reading as spec;
+ghost use Rattle.layout_parser.specs.Nests.{Nests, Flats, ended};
+
+use core_expr::{Memory, Text};
+use crate::build::{binary, both, leaf};
+use crate::cursor::Cursor;
+use crate::flat::Flat;
+use crate::grammar::Grammar;
+use crate::mark::Mark;
+use crate::setting::{Around, Setting, Stop};
+use sqlite_items::Items;
+use std::alloc::Global;
+use tla_ast::{Form, Node, Place, SynFault};
+
+impl<
+    F: Fn(Global, &mut Cursor<'_>, usize, usize, Setting, bool) -> Result<Flat, Memory>,
+> Grammar<F> {
+    /// One or more expressions, with commas between, after those found.
+    pub fn expressions(&self, cursor: &mut Cursor<'_>, setting: Setting, mut found: Items<Node>) -> Result<Items<Node>, SynFault>
+        requires { Nests self.now.left (F.pre self.now.read) (F.post self.now.read) }
+        ensures { Reads (spec.expressions self.now.left (spec.nested self.now.left) setting found cursor.old) result cursor.new }
+    {
+        for _turn in 0..cursor.left() {
+            found.push(self.part(cursor, setting)?)?;
+            if !cursor.eat(setting, Mark::Comma) {
+                return Ok(found);
+            }
+        }
+        Err(cursor.refusal(self.alloc, setting, Stop::Expression))
+    }
+
+    /// The arguments of a name.
+    #[tactic(auto, unfolding(crate::specs::Reading::arguments))]
+    fn arguments(&self, cursor: &mut Cursor<'_>, setting: Setting) -> Result<Items<Node>, SynFault>
+        requires { Nests self.now.left (F.pre self.now.read) (F.post self.now.read) }
+        ensures { Reads (spec.arguments self.now.left (spec.nested self.now.left) setting cursor.old) result cursor.new }
+    {
+        let inside = setting.within(Around::Other);
+        cursor.opening(self.left)?;
+        let found = self.expressions(cursor, inside, Items::new(self.alloc))?;
+        cursor.expect(self.alloc, inside, Stop::Expression, Mark::CloseParen)?;
+        Ok(found)
+    }
+
+    /// A name, with the arguments that follow it at once.
+    #[tactic(auto, unfolding(crate::specs::Reading::named))]
+    pub fn named(&self, cursor: &mut Cursor<'_>, setting: Setting) -> Result<Node, SynFault>
+        requires { Nests self.now.left (F.pre self.now.read) (F.post self.now.read) }
+        ensures { Reads (spec.named self.now.left (spec.nested self.now.left) setting cursor.old) result cursor.new }
+    {
+        let name = Text::of(self.alloc, cursor.spelling())?;
+        let place = cursor.take();
+        if !cursor.sees(setting, Mark::OpenParen) {
+            return Ok(leaf(self.alloc, Form::Name(name), place));
+        }
+        let parts = self.arguments(cursor, setting)?;
+        Ok(Node {
+            form: Form::Call(name),
+            parts,
+            place,
+        })
+    }
+
+    /// An expression in parentheses.
+    #[tactic(auto, unfolding(crate::specs::Reading::parenthesized))]
+    pub fn parenthesized(&self, cursor: &mut Cursor<'_>, setting: Setting) -> Result<Node, SynFault>
+        requires { Nests self.now.left (F.pre self.now.read) (F.post self.now.read) }
+        ensures { Reads (spec.parenthesized self.now.left (spec.nested self.now.left) setting cursor.old) result cursor.new }
+    {
+        let inside = setting.within(Around::Other);
+        cursor.opening(self.left)?;
+        let inner = self.part(cursor, inside)?;
+        cursor.expect(self.alloc, inside, Stop::Expression, Mark::CloseParen)?;
+        Ok(inner)
+    }
+
+    /// A tuple in the place of a subscript.
+    #[tactic(auto, unfolding(crate::specs::Reading::tuple))]
+    fn tuple(&self, cursor: &mut Cursor<'_>, setting: Setting) -> Result<Node, SynFault>
+        requires { Nests self.now.left (F.pre self.now.read) (F.post self.now.read) }
+        ensures { Reads (spec.tuple self.now.left (spec.nested self.now.left) setting cursor.old) result cursor.new }
+    {
+        let inside = setting.within(Around::Other);
+        let place = cursor.opening(self.left)?;
+        if cursor.eat(inside, Mark::CloseAngle) {
+            return Ok(leaf(self.alloc, Form::Tuple, place));
+        }
+        let parts = self.expressions(cursor, inside, Items::new(self.alloc))?;
+        cursor.expect(self.alloc, inside, Stop::Expression, Mark::CloseAngle)?;
+        Ok(Node {
+            form: Form::Tuple,
+            parts,
+            place,
+        })
+    }
+
+    /// A subscript: an identifier, a tuple or an expression in parentheses.
+    #[tactic(auto, unfolding(crate::specs::Reading::subscript))]
+    pub fn subscript(&self, cursor: &mut Cursor<'_>, setting: Setting) -> Result<Node, SynFault>
+        requires { Nests self.now.left (F.pre self.now.read) (F.post self.now.read) }
+        ensures { Reads (spec.subscript self.now.left (spec.nested self.now.left) setting cursor.old) result cursor.new }
+    {
+        if cursor.sees(setting, Mark::Name) {
+            let name = Text::of(self.alloc, cursor.spelling())?;
+            let place = cursor.take();
+            return Ok(leaf(self.alloc, Form::Name(name), place));
+        }
+        if cursor.sees(setting, Mark::OpenAngle) {
+            return self.tuple(cursor, setting);
+        }
+        if cursor.sees(setting, Mark::OpenParen) {
+            return self.parenthesized(cursor, setting);
+        }
+        Err(cursor.refusal(self.alloc, setting, Stop::Other))
+    }
+
+    /// `>>` after the items of a tuple, or `>>_` after an action.
+    #[tactic(auto, unfolding(crate::specs::Reading::angle_end))]
+    fn angle_end(&self, cursor: &mut Cursor<'_>, setting: Setting, place: Place, mut parts: Items<Node>) -> Result<Node, SynFault>
+        requires { Nests self.now.left (F.pre self.now.read) (F.post self.now.read) }
+        ensures { Reads (spec.angle_end self.now.left (spec.nested self.now.left) setting place parts cursor.old) result cursor.new }
+    {
+        let inside = setting.within(Around::Other);
+        if cursor.eat(inside, Mark::CloseAngle) {
+            return Ok(Node {
+                form: Form::Tuple,
+                parts,
+                place,
+            });
+        }
+        if !both(cursor.sees(inside, Mark::CloseAction), parts.len() == 1) {
+            return Err(cursor.refusal(self.alloc, inside, Stop::Expression));
+        }
+        cursor.advance();
+        parts.push(self.subscript(cursor, setting)?)?;
+        Ok(Node {
+            form: Form::AngleAct,
+            parts,
+            place,
+        })
+    }
+
+    /// A tuple or `<<A>>_v`.
+    #[tactic(auto, unfolding(crate::specs::Reading::angle))]
+    pub fn angle(&self, cursor: &mut Cursor<'_>, setting: Setting) -> Result<Node, SynFault>
+        requires { Nests self.now.left (F.pre self.now.read) (F.post self.now.read) }
+        ensures { Reads (spec.angle self.now.left (spec.nested self.now.left) setting cursor.old) result cursor.new }
+    {
+        let inside = setting.within(Around::Other);
+        let place = cursor.opening(self.left)?;
+        if cursor.eat(inside, Mark::CloseAngle) {
+            return Ok(leaf(self.alloc, Form::Tuple, place));
+        }
+        let parts = self.expressions(cursor, inside, Items::new(self.alloc))?;
+        self.angle_end(cursor, setting, place, parts)
+    }
+
+    /// `WF_v(A)` and `SF_v(A)`.
+    #[tactic(auto, unfolding(crate::specs::Reading::fair))]
+    pub fn fair(&self, cursor: &mut Cursor<'_>, strong: bool, setting: Setting) -> Result<Node, SynFault>
+        requires { Nests self.now.left (F.pre self.now.read) (F.post self.now.read) }
+        ensures { Reads (spec.fair self.now.left (spec.nested self.now.left) strong setting cursor.old) result cursor.new }
+    {
+        let place = cursor.take();
+        let subscript = self.subscript(cursor, setting)?;
+        if !cursor.sees(setting, Mark::OpenParen) {
+            return Err(cursor.refusal(self.alloc, setting, Stop::Other));
+        }
+        let action = self.parenthesized(cursor, setting)?;
+        Ok(binary(self.alloc, Form::Fair { strong }, subscript, action, place)?)
+    }
+}

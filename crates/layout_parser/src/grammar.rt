@@ -1,0 +1,188 @@
+//! The rules hold expressions of further nestings, and take the reader of those as a parameter: so each is proved by itself, and
+//! one function alone recurses.
+
+ghost use Rattle.std.specs.Prelude.{◌≡◌, ◌≢◌, Ok, Err, IfOk, true};
+ghost use Rattle.tla_ast.specs.declared.fault.SynFault.TheVariants as syn;
+ghost use Rattle.operator_chain.specs.Chain.{IsChain, tree_of, fault_of};
+ghost use Rattle.operator_chain.specs.Listed.{AreListed};
+ghost use Rattle.layout_parser.specs.Input.{Tokens, Reads};
+ghost use Rattle.layout_parser.specs.Reading as spec;
+ghost use Rattle.layout_parser.specs.Nests.{Nests, Flats, Steps, ended};
+
+use crate::cursor::Cursor;
+use crate::flat::{Flat, Step};
+use crate::setting::Setting;
+use core_expr::Memory;
+use operator_chain::{ChainFault, Piece, tree};
+use std::alloc::Global;
+use std::collections::VecDeque;
+use tla_ast::{Kind, Node, SynFault};
+
+/// The rules, where so many nestings may begin.
+#[derive(Clone, Copy)]
+pub struct Grammar<F> {
+    pub alloc: Global,
+    pub left: usize,
+    /// Reads a chain in a further nesting.
+    pub read: F,
+}
+
+/// A fault that is not want of memory.
+pub fn told(fault: SynFault) -> Result<SynFault, Memory>
+    ensures { IfOk result (λ f. (f ≡ fault) × (fault ≢ syn.Memory)) }
+{
+    match fault {
+        SynFault::Memory => Err(Memory),
+        other => Ok(other),
+    }
+}
+
+/// The node of a chain, or the fault of its operators, or else that at which it breaks off.
+#[tactic(auto, unfolding(crate::specs::Reading::finished))]
+pub fn finished(alloc: Global, flat: Flat) -> Result<Node, SynFault>
+    requires chain { IsChain true flat.pieces.items }
+    requires listed { AreListed flat.pieces.items }
+    ensures { (rest : Tokens) → Reads (spec.finished (flat.pieces.items, ended flat.fault rest)) result rest }
+{
+    let Flat { pieces, fault } = flat;
+    let node = match tree(alloc, pieces) {
+        Ok(node) => node,
+        Err(ChainFault::Memory) => return Err(SynFault::Memory),
+        Err(ChainFault::Precedence(place)) => {
+            return Err(SynFault::At {
+                place,
+                kind: Kind::Precedence,
+            });
+        }
+    };
+    match fault {
+        None => Ok(node),
+        Some(fault) => Err(fault),
+    }
+}
+
+impl<
+    F: Fn(Global, &mut Cursor<'_>, usize, usize, Setting, bool) -> Result<Flat, Memory>,
+> Grammar<F> {
+    fn nested(
+        &self,
+        cursor: &mut Cursor<'_>,
+        pieces: usize,
+        setting: Setting,
+        waits: bool,
+    ) -> Result<Flat, Memory>
+        requires { Nests self.now.left (F.pre self.now.read) (F.post self.now.read) }
+        ensures { Flats (spec.nested self.now.left pieces setting waits cursor.old) result cursor.new }
+    {
+        (self.read)(self.alloc, cursor, self.left, pieces, setting, waits)
+    }
+
+    /// A chain in a further nesting.
+    pub fn inner(
+        &self,
+        cursor: &mut Cursor<'_>,
+        pieces: usize,
+        setting: Setting,
+        waits: bool,
+    ) -> Result<Flat, Memory>
+        requires { Nests self.now.left (F.pre self.now.read) (F.post self.now.read) }
+        ensures flats { Flats (spec.nested self.now.left pieces setting waits cursor.old) result cursor.new }
+        ensures chain { IfOk result (λ f. IsChain waits f.pieces.items) }
+        ensures listed { IfOk result (λ f. AreListed f.pieces.items) }
+    {
+        self.nested(cursor, pieces, setting, waits)
+    }
+
+    /// An expression in a further nesting.
+    pub fn part(&self, cursor: &mut Cursor<'_>, setting: Setting) -> Result<Node, SynFault>
+        requires { Nests self.now.left (F.pre self.now.read) (F.post self.now.read) }
+        ensures { Reads (spec.part self.now.left (spec.nested self.now.left) setting cursor.old) result cursor.new }
+    {
+        let most = cursor.left();
+        let flat = self.inner(cursor, most, setting, true)?;
+        finished(self.alloc, flat)
+    }
+
+    fn step(
+        &self,
+        cursor: &mut Cursor<'_>,
+        setting: Setting,
+        waits: bool,
+    ) -> Result<Step, Memory>
+        requires { Nests self.now.left (F.pre self.now.read) (F.post self.now.read) }
+        ensures { Steps (spec.step self.now.left (spec.nested self.now.left) setting waits cursor.old) result cursor.new }
+    {
+        if waits {
+            self.step_before(cursor, setting)
+        } else {
+            self.step_after(cursor, setting)
+        }
+    }
+
+    /// A chain of so many pieces at most, as far as it can be read.
+    pub fn chain(
+        &self,
+        cursor: &mut Cursor<'_>,
+        most: usize,
+        setting: Setting,
+        mut waits: bool,
+    ) -> Result<Flat, Memory>
+        requires { Nests self.now.left (F.pre self.now.read) (F.post self.now.read) }
+        ensures { Flats (spec.chain_from self.now.left (spec.nested self.now.left) most setting waits cursor.old) result cursor.new }
+    {
+        let mut pieces = VecDeque::new(self.alloc);
+        for _turn in 0..most {
+            match self.step(cursor, setting, waits)? {
+                Step::More(piece, opens) => {
+                    pieces.push_back(piece)?;
+                    waits = opens;
+                }
+                Step::Ended => return Ok(Flat { pieces, fault: None }),
+                Step::Broken(piece, fault) => return broken(pieces, piece, fault),
+            }
+        }
+        Ok(Flat { pieces, fault: None })
+    }
+}
+
+/// The chain that breaks off at a fault, behind a postfix operator that is not finished or without one.
+fn broken(
+    mut pieces: VecDeque<Piece>,
+    piece: Option<Piece>,
+    fault: SynFault,
+) -> Result<Flat, Memory>
+    ensures { (rest : Tokens) → Flats (spec.behind pieces.items (spec.left_over piece, Err fault)) result rest }
+{
+    if let Some(piece) = piece {
+        pieces.push_back(piece)?;
+    }
+    Ok(Flat {
+        pieces,
+        fault: Some(fault),
+    })
+}
+
+/// Reads a chain in a further nesting, where so many nestings may begin.
+pub fn read_chain(
+    alloc: Global,
+    cursor: &mut Cursor<'_>,
+    left: usize,
+    pieces: usize,
+    setting: Setting,
+    waits: bool,
+) -> Result<Flat, Memory>
+    ensures { Flats (spec.nested left pieces setting waits cursor.old) result cursor.new }
+{
+    if left == 0 {
+        return Ok(Flat {
+            pieces: VecDeque::new(alloc),
+            fault: Some(cursor.too_deep(setting)),
+        });
+    }
+    Grammar {
+        alloc,
+        left: left - 1,
+        read: read_chain,
+    }
+    .chain(cursor, pieces, setting, waits)
+}

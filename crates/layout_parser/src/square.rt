@@ -1,0 +1,212 @@
+//! Square brackets.
+
+ghost use Rattle.std.specs.Prelude.{◌≡◌, true, [], OnOk};
+ghost use Rattle.layout_parser.specs.Input as input;
+ghost use Rattle.operator_chain.specs.Chain.{IsChain};
+ghost use Rattle.operator_chain.specs.Listed.{AreListed};
+ghost use Rattle.layout_parser.specs.Input.{Reads, and_then};
+ghost use Rattle.layout_parser.specs.Reading as spec;
+ghost use Rattle.layout_parser.specs.Nests.{Nests, Flats, ended};
+
+use crate::member::{Bound, element, is_whole};
+use core_expr::{Memory, Text};
+use crate::build::{binary, leaf};
+use crate::cursor::Cursor;
+use crate::flat::Flat;
+use crate::grammar::{Grammar, finished};
+use crate::mark::Mark;
+use crate::setting::{Around, Setting, Stop};
+use sqlite_items::Items;
+use std::alloc::Global;
+use tla_ast::{Decl, Form, Node, Place, SynFault};
+
+/// Fields of a record with what they hold: the names, and per field a node of its name and the expression.
+#[derive(Drop)]
+pub struct Fields {
+    pub names: Items<Text>,
+    pub parts: Items<Node>,
+}
+
+impl Fields {
+    fn new(alloc: Global) -> Fields
+        ensures names { result.names ≡ [] }
+        ensures parts { result.parts ≡ [] }
+    {
+        Fields {
+            names: Items::new(alloc),
+            parts: Items::new(alloc),
+        }
+    }
+
+    fn push(&mut self, alloc: Global, field: Decl, value: Node) -> Result<(), Memory>
+        ensures { OnOk result (self.new ≡ spec.with_field self.old field value) }
+    {
+        let name = Text::of(alloc, field.name.bytes())?;
+        self.names.push(name)?;
+        self.parts.push(leaf(alloc, Form::Name(field.name), field.place))?;
+        self.parts.push(value)?;
+        Ok(())
+    }
+}
+
+impl<
+    F: Fn(Global, &mut Cursor<'_>, usize, usize, Setting, bool) -> Result<Flat, Memory>,
+> Grammar<F> {
+    /// One or more `h |-> e` or `h : S`, with commas between.
+    fn fields(&self, cursor: &mut Cursor<'_>, setting: Setting, mark: Mark) -> Result<Fields, SynFault>
+        requires { Nests self.now.left (F.pre self.now.read) (F.post self.now.read) }
+        ensures { Reads (spec.fields self.now.left (spec.nested self.now.left) setting mark cursor.old) result cursor.new }
+    {
+        let mut fields = Fields::new(self.alloc);
+        for _turn in 0..cursor.left() {
+            let field = cursor.declared(self.alloc, setting, Stop::Other)?;
+            cursor.expect(self.alloc, setting, Stop::Other, mark)?;
+            let value = self.part(cursor, setting)?;
+            fields.push(self.alloc, field, value)?;
+            if !cursor.eat(setting, Mark::Comma) {
+                return Ok(fields);
+            }
+        }
+        Err(cursor.refusal(self.alloc, setting, Stop::Expression))
+    }
+
+    /// `[h |-> e, ..]`, after the `[`.
+    #[tactic(auto, unfolding(crate::specs::Reading::record_of))]
+    fn record_of(&self, cursor: &mut Cursor<'_>, setting: Setting, place: Place) -> Result<Node, SynFault>
+        requires { Nests self.now.left (F.pre self.now.read) (F.post self.now.read) }
+        ensures { Reads (spec.record_of self.now.left (spec.nested self.now.left) setting place cursor.old) result cursor.new }
+    {
+        let Fields { names, parts } = self.fields(cursor, setting, Mark::Maps)?;
+        cursor.expect(self.alloc, setting, Stop::Expression, Mark::CloseSquare)?;
+        Ok(Node {
+            form: Form::Record(names),
+            parts,
+            place,
+        })
+    }
+
+    /// `[h : S, ..]`, after the `[`.
+    #[tactic(auto, unfolding(crate::specs::Reading::record_set))]
+    fn record_set(&self, cursor: &mut Cursor<'_>, setting: Setting, place: Place) -> Result<Node, SynFault>
+        requires { Nests self.now.left (F.pre self.now.read) (F.post self.now.read) }
+        ensures { Reads (spec.record_set self.now.left (spec.nested self.now.left) setting place cursor.old) result cursor.new }
+    {
+        let Fields { names, parts } = self.fields(cursor, setting, Mark::Colon)?;
+        cursor.expect(self.alloc, setting, Stop::Expression, Mark::CloseSquare)?;
+        Ok(Node {
+            form: Form::RecordSet(names),
+            parts,
+            place,
+        })
+    }
+
+    /// `[S -> T]`, after the `->`.
+    #[tactic(auto, unfolding(crate::specs::Reading::function_set))]
+    fn function_set(&self, cursor: &mut Cursor<'_>, setting: Setting, place: Place, domain: Node) -> Result<Node, SynFault>
+        requires { Nests self.now.left (F.pre self.now.read) (F.post self.now.read) }
+        ensures { Reads (spec.function_set self.now.left (spec.nested self.now.left) setting place domain cursor.old) result cursor.new }
+    {
+        let range = self.part(cursor, setting)?;
+        cursor.expect(self.alloc, setting, Stop::Expression, Mark::CloseSquare)?;
+        Ok(binary(self.alloc, Form::FunctionSet, domain, range, place)?)
+    }
+
+    /// What follows the first expression in a square bracket.
+    #[tactic(auto, unfolding(crate::specs::Reading::square_end))]
+    fn square_end(&self, cursor: &mut Cursor<'_>, setting: Setting, place: Place, first: Node) -> Result<Node, SynFault>
+        requires { Nests self.now.left (F.pre self.now.read) (F.post self.now.read) }
+        ensures { Reads (spec.square_end self.now.left (spec.nested self.now.left) setting place first cursor.old) result cursor.new }
+    {
+        if cursor.eat(setting, Mark::CloseBox) {
+            let subscript = self.subscript(cursor, setting)?;
+            return Ok(binary(self.alloc, Form::BoxAct, first, subscript, place)?);
+        }
+        if cursor.eat(setting, Mark::Arrow) {
+            return self.function_set(cursor, setting, place, first);
+        }
+        if cursor.eat(setting, Mark::Except) {
+            return self.except(cursor, setting, place, first);
+        }
+        Err(cursor.refusal(self.alloc, setting, Stop::Expression))
+    }
+
+    /// `[x \in S |-> e]`, after the `|->`.
+    #[tactic(auto, unfolding(crate::specs::Reading::function))]
+    fn function(&self, cursor: &mut Cursor<'_>, setting: Setting, name: Text, place: Place, set: Node) -> Result<Node, SynFault>
+        requires { Nests self.now.left (F.pre self.now.read) (F.post self.now.read) }
+        ensures { Reads (spec.function self.now.left (spec.nested self.now.left) setting name place set cursor.old) result cursor.new }
+    {
+        let value = self.part(cursor, setting)?;
+        cursor.expect(self.alloc, setting, Stop::Expression, Mark::CloseSquare)?;
+        Ok(binary(self.alloc, Form::Function(name), set, value, place)?)
+    }
+
+    /// A bracket that begins with `x \in S`, where it is no `[x \in S |-> e]`.
+    fn other_member_square(&self, cursor: &mut Cursor<'_>, setting: Setting, place: Place, bound: Bound, set: Flat) -> Result<Node, SynFault>
+        requires nests { Nests self.now.left (F.pre self.now.read) (F.post self.now.read) }
+        requires set { IsChain true set.pieces.items × AreListed set.pieces.items }
+        ensures { Reads (and_then (spec.finished (spec.after_member bound.name bound.place bound.sign (set.pieces.items, ended set.fault cursor.old))) (spec.square_end self.now.left (spec.nested self.now.left) setting place)) result cursor.new }
+    {
+        let element = element(self.alloc, bound, set)?;
+        self.square_end(cursor, setting, place, element)
+    }
+
+    /// A square bracket that begins with `x \in`.
+    #[tactic(auto, unfolding(crate::specs::Reading::member_square))]
+    fn member_square(&self, cursor: &mut Cursor<'_>, setting: Setting, place: Place) -> Result<Node, SynFault>
+        requires { Nests self.now.left (F.pre self.now.read) (F.post self.now.read) }
+        ensures { Reads (spec.member_square self.now.left (spec.nested self.now.left) setting place cursor.old) result cursor.new }
+    {
+        let bound = Bound::read(self.alloc, cursor)?;
+        let most = cursor.left();
+        let set = self.inner(cursor, most, setting, true)?;
+        if !is_whole(self.alloc, cursor, setting, &set, Mark::Maps)? {
+            return self.other_member_square(cursor, setting, place, bound, set);
+        }
+        let set = finished(self.alloc, set)?;
+        cursor.advance();
+        self.function(cursor, setting, bound.name, bound.place, set)
+    }
+
+    /// What follows `[` where that is a name.
+    #[tactic(auto, unfolding(crate::specs::Reading::square_name))]
+    fn square_name(&self, cursor: &mut Cursor<'_>, setting: Setting, place: Place) -> Result<Node, SynFault>
+        requires { Nests self.now.left (F.pre self.now.read) (F.post self.now.read) }
+        ensures { Reads (spec.square_name self.now.left (spec.nested self.now.left) setting place cursor.old) result cursor.new }
+    {
+        if cursor.sees_second(setting, Mark::Maps) {
+            return self.record_of(cursor, setting, place);
+        }
+        if cursor.sees_second(setting, Mark::Colon) {
+            return self.record_set(cursor, setting, place);
+        }
+        if cursor.sees_second(setting, Mark::Belongs) {
+            return self.member_square(cursor, setting, place);
+        }
+        let first = self.part(cursor, setting)?;
+        self.square_end(cursor, setting, place, first)
+    }
+
+    /// What follows `[`.
+    #[tactic(auto, unfolding(crate::specs::Reading::square_from))]
+    fn square_from(&self, cursor: &mut Cursor<'_>, setting: Setting, place: Place) -> Result<Node, SynFault>
+        requires { Nests self.now.left (F.pre self.now.read) (F.post self.now.read) }
+        ensures { Reads (spec.square_from self.now.left (spec.nested self.now.left) setting place cursor.old) result cursor.new }
+    {
+        if cursor.sees(setting, Mark::Name) {
+            return self.square_name(cursor, setting, place);
+        }
+        let first = self.part(cursor, setting)?;
+        self.square_end(cursor, setting, place, first)
+    }
+
+    /// Functions, records, their sets, EXCEPT and `[A]_v`.
+    #[tactic(auto, unfolding(crate::specs::Reading::square))]
+    pub fn square(&self, cursor: &mut Cursor<'_>, setting: Setting) -> Result<Node, SynFault>
+        requires { Nests self.now.left (F.pre self.now.read) (F.post self.now.read) }
+        ensures { Reads (spec.square self.now.left (spec.nested self.now.left) setting cursor.old) result cursor.new }
+    {
+        let place = cursor.opening(self.left)?;
+        self.square_from(cursor, setting.within(Around::Square), place)
+    }
+}
