@@ -27,7 +27,7 @@ use Rattle.layout_parser.specs.declared.flat.Flat.{Flat}
 use Rattle.core_expr.specs.declared.memory.Memory.{Memory}
 use Rattle.layout_parser.specs.Nests.{Flats, ended}
 use Rattle.layout_parser.specs.Marks.{Text, spelling}
-use Rattle.layout_parser.specs.Input.{Tokens, Outcome, first, next, here, is_inside, mark, name}
+use Rattle.layout_parser.specs.Input.{Tokens, Outcome, first, next, here, is_inside, mark, name, too_deep}
 use Rattle.layout_parser.specs.Reading.{Chain, ChainReader, Stepped, behind, left_over, joined, step, step_before, step_after, before_by, after_by, suffixed, by_operand, by_suffix, operand, operator_at, operator_in, index_at, field_at, prime_at, member_at, after_member, node, indexed, field, index, chain_from, nested}
 
 -- ---- the loop
@@ -235,3 +235,12 @@ pub two-listed : (xs ys zs : List Piece) (a : Node) (p : Piece) (place : Place) 
 two-listed xs ys zs a p place is-xs is-ys is-p h =
     let all : xs ≡ piece.Operand a ∷ member_at place ∷ zs = is-xs ∙ ap (λ l. piece.Operand a ∷ l) (is-ys ∙ ap (λ q. q ∷ zs) is-p) in
     subst AreListed (sym all) (tt, (member-listed place, h))
+
+-- ---- nestings
+
+pub nested-none : (left n : ℕ) (s : Setting) (waits : Bool) (ts : Tokens) (xs : List Piece) (f : SynFault) → left ≡ 0 → xs ≡ [] → f ≡ too_deep s ts
+    → (xs ≡ (nested left n s waits ts).0) × ((nested left n s waits ts).1 ≡ Err f)
+unfolding nested
+nested-none left n s waits ts xs f is-left is-xs is-f =
+    let e : nested left n s waits ts ≡ ([], Err (too_deep s ts)) = ap (λ k. nested k n s waits ts) is-left in
+    (is-xs ∙ sym (ap (λ p. p.0) e), ap (λ p. p.1) e ∙ ap Err (sym is-f))

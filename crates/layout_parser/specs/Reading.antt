@@ -145,11 +145,29 @@ is_tuple_form f = elim (out-Form f) [ Form-F.Tuple ↦ true | _ ↦ false ]
 abbrev pub after_first : Setting → Node → Tokens → Setting
 after_first s a rest = if is_tuple_form (out-Node a).form && sees s m.Belongs rest then within around.Tuple s else s
 
+-- the key that a postfix operator looks like
+abbrev pub by_ending : Setting → Ending → Reader Key
+by_ending s (ending.Index e) = pure (key.At e)
+by_ending s (ending.Field h) = pure (key.Field h)
+by_ending s ending.Prime = refuse s stop.Other
+
+abbrev pub by_key : Setting → Chain → Outcome Key
+by_key s (piece.Postfix q ∷ [], Ok rest) = by_ending s q.ending rest
+by_key s (xs, Ok rest) = refuse s stop.Other rest
+by_key s (xs, Err e) = Err e
+
 -- ---- lists that grow by parts
+
+abbrev pub no_fields : Fields
+no_fields = record { names = []; parts = [] }
 
 -- the fields with one more: its name, and a node of the name and the expression
 abbrev pub with_field : Fields → Decl → Node → Fields
 with_field f h e = record { names = f.names ++ h.name ∷ []; parts = f.parts ++ node (form.Name h.name) [] h.place ∷ e ∷ [] }
+
+-- the function, before any update
+abbrev pub no_updates : Node → Updates
+no_updates f = record { paths = []; parts = f ∷ [] }
 
 -- the updates with one more
 abbrev pub with_update : Updates → Path → Node → Updates
@@ -359,7 +377,7 @@ module _ (left : ℕ) (inner : ChainReader) where
     if more then fields_from n s k (with_field found h e) else pure (with_field found h e)
 
   unfoldable pub fields : Setting → Mark → Reader Fields
-  fields s k = λ ts. fields_from (length ts) s k (record { names = []; parts = [] }) ts
+  fields s k = λ ts. fields_from (length ts) s k no_fields ts
 
   -- `[h |-> e, ..]`, after the `[`
   unfoldable pub record_of : Setting → Place → Reader Node
@@ -389,17 +407,6 @@ module _ (left : ℕ) (inner : ChainReader) where
     e ← part (within around.Square s)
     expect (within around.Square s) stop.Expression m.CloseSquare
     pure e
-
-  -- the key that a postfix operator looks like
-  abbrev pub by_ending : Setting → Ending → Reader Key
-  by_ending s (ending.Index e) = pure (key.At e)
-  by_ending s (ending.Field h) = pure (key.Field h)
-  by_ending s ending.Prime = refuse s stop.Other
-
-  abbrev pub by_key : Setting → Chain → Outcome Key
-  by_key s (piece.Postfix q ∷ [], Ok rest) = by_ending s q.ending rest
-  by_key s (xs, Ok rest) = refuse s stop.Other rest
-  by_key s (xs, Err e) = Err e
 
   -- One key of a path, `[e]` or `.h`: it is read as the postfix operator that it looks like, inside the bracket of the EXCEPT.
   unfoldable pub key_of : Setting → Reader Key
@@ -436,7 +443,7 @@ module _ (left : ℕ) (inner : ChainReader) where
     if more then updates_from n s (with_update found u.0 u.1) else pure (with_update found u.0 u.1)
 
   unfoldable pub updates : Setting → Node → Reader Updates
-  updates s f = λ ts. updates_from (length ts) s (record { paths = []; parts = f ∷ [] }) ts
+  updates s f = λ ts. updates_from (length ts) s (no_updates f) ts
 
   -- `[f EXCEPT !path = e, ..]`, after the EXCEPT
   unfoldable pub except : Setting → Place → Node → Reader Node

@@ -126,14 +126,14 @@ impl<
         ensures { Reads (spec.angle_end self.now.left (spec.nested self.now.left) setting place parts cursor.old) result cursor.new }
     {
         let inside = setting.within(Around::Other);
-        if cursor.eat(inside, Mark::CloseAngle) {
+        if cursor.eat(setting, Mark::CloseAngle) {
             return Ok(Node {
                 form: Form::Tuple,
                 parts,
                 place,
             });
         }
-        if !both(cursor.sees(inside, Mark::CloseAction), parts.len() == 1) {
+        if !both(cursor.sees(setting, Mark::CloseAction), parts.len() == 1) {
             return Err(cursor.refusal(self.alloc, inside, Stop::Expression));
         }
         cursor.advance();

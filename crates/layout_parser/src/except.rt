@@ -1,6 +1,6 @@
 //! EXCEPT.
 
-ghost use Rattle.std.specs.Prelude.{◌≡◌, Ok, [], ◌∷◌, IfOk, OnOk};
+ghost use Rattle.std.specs.Prelude.{◌≡◌, Ok, IfOk, OnOk};
 ghost use Rattle.layout_parser.specs.Input as input;
 ghost use Rattle.layout_parser.specs.Input.{Reads};
 ghost use Rattle.layout_parser.specs.Reading as spec;
@@ -28,8 +28,7 @@ pub struct Updates {
 
 impl Updates {
     fn new(alloc: Global, function: Node) -> Result<Updates, AllocError>
-        ensures paths { IfOk result (λ u. u.paths ≡ []) }
-        ensures parts { IfOk result (λ u. u.parts ≡ function ∷ []) }
+        ensures { IfOk result (λ u. u ≡ spec.no_updates function) }
     {
         let parts = one(alloc, function)?;
         Ok(Updates {

@@ -1,6 +1,6 @@
 //! Square brackets.
 
-ghost use Rattle.std.specs.Prelude.{◌≡◌, true, [], OnOk};
+ghost use Rattle.std.specs.Prelude.{◌≡◌, true, OnOk};
 ghost use Rattle.layout_parser.specs.Input as input;
 ghost use Rattle.operator_chain.specs.Chain.{IsChain};
 ghost use Rattle.operator_chain.specs.Listed.{AreListed};
@@ -29,8 +29,7 @@ pub struct Fields {
 
 impl Fields {
     fn new(alloc: Global) -> Fields
-        ensures names { result.names ≡ [] }
-        ensures parts { result.parts ≡ [] }
+        ensures { result ≡ spec.no_fields }
     {
         Fields {
             names: Items::new(alloc),
