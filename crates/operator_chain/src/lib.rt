@@ -11,4 +11,6 @@ pub use chain::{ChainFault, Ending, Operator, Piece, Suffix, first_fault, one_ri
 pub use stack::{discard, plain, tree};
 
 #[cfg(test)]
+mod brute_force;
+#[cfg(test)]
 mod tests;

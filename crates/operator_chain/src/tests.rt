@@ -75,7 +75,7 @@ fn pushed(chain: &mut VecDeque<Piece>, piece: Piece) -> Result<(), AllocError>
 }
 
 /// The chain of these words, each at the column of its number, from 1.
-fn chain_of(alloc: Global, words: &[&[u8]]) -> Result<VecDeque<Piece>, Memory>
+pub(crate) fn chain_of(alloc: Global, words: &[&[u8]]) -> Result<VecDeque<Piece>, Memory>
     ensures chain { IfOk result (λ v. IsChain true v.items) }
     ensures listed { IfOk result (λ v. AreListed v.items) }
 {
@@ -91,7 +91,7 @@ fn chain_of(alloc: Global, words: &[&[u8]]) -> Result<VecDeque<Piece>, Memory>
     Ok(chain)
 }
 
-fn word_of(form: &Form) -> &[u8] {
+pub(crate) fn word_of(form: &Form) -> &[u8] {
     match form {
         Form::Name(name) => name.bytes(),
         Form::Prefix(sign) => sign.bytes(),
