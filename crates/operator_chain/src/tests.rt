@@ -139,9 +139,14 @@ fn is_read(alloc: Global, words: &[&[u8]], want: &Want) -> bool {
     let Ok(chain) = chain_of(alloc, words) else {
         return false;
     };
+    let Ok(has) = has_tree(alloc, &chain) else {
+        return false;
+    };
     match (tree(alloc, chain), want) {
-        (Ok(node), Want::Tree(text)) => is_written(alloc, &node, text),
-        (Err(ChainFault::Precedence(place)), Want::Refused(column)) => place.column == *column,
+        (Ok(node), Want::Tree(text)) => has && is_written(alloc, &node, text),
+        (Err(ChainFault::Precedence(place)), Want::Refused(column)) => {
+            !has && place.column == *column
+        }
         _ => false,
     }
 }
