@@ -5,3 +5,4 @@ mod FaultLaws
 mod MachineLaws
 mod StackLemmas
 mod Pushed
+mod OutlineLaws

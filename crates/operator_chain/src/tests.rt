@@ -75,7 +75,7 @@ fn pushed(chain: &mut VecDeque<Piece>, piece: Piece) -> Result<(), AllocError>
 }
 
 /// The chain of these words, each at the column of its number, from 1.
-fn chain_of(alloc: Global, words: &[&[u8]]) -> Result<VecDeque<Piece>, Memory>
+pub(crate) fn chain_of(alloc: Global, words: &[&[u8]]) -> Result<VecDeque<Piece>, Memory>
     ensures chain { IfOk result (λ v. IsChain true v.items) }
     ensures listed { IfOk result (λ v. AreListed v.items) }
 {
@@ -91,7 +91,7 @@ fn chain_of(alloc: Global, words: &[&[u8]]) -> Result<VecDeque<Piece>, Memory>
     Ok(chain)
 }
 
-fn word_of(form: &Form) -> &[u8] {
+pub(crate) fn word_of(form: &Form) -> &[u8] {
     match form {
         Form::Name(name) => name.bytes(),
         Form::Prefix(sign) => sign.bytes(),
@@ -139,9 +139,14 @@ fn is_read(alloc: Global, words: &[&[u8]], want: &Want) -> bool {
     let Ok(chain) = chain_of(alloc, words) else {
         return false;
     };
+    let Ok(has) = has_tree(alloc, &chain) else {
+        return false;
+    };
     match (tree(alloc, chain), want) {
-        (Ok(node), Want::Tree(text)) => is_written(alloc, &node, text),
-        (Err(ChainFault::Precedence(place)), Want::Refused(column)) => place.column == *column,
+        (Ok(node), Want::Tree(text)) => has && is_written(alloc, &node, text),
+        (Err(ChainFault::Precedence(place)), Want::Refused(column)) => {
+            !has && place.column == *column
+        }
         _ => false,
     }
 }
