@@ -28,7 +28,7 @@ use Rattle.core_expr.specs.declared.memory.Memory.{Memory}
 use Rattle.layout_parser.specs.Nests.{Flats, ended}
 use Rattle.layout_parser.specs.Marks.{Text, spelling}
 use Rattle.layout_parser.specs.Input.{Tokens, Outcome, first, next, here, is_inside, mark, name, too_deep}
-use Rattle.layout_parser.specs.Reading.{Chain, ChainReader, Stepped, behind, left_over, joined, step, step_before, step_after, before_by, after_by, suffixed, by_operand, by_suffix, operand, operator_at, operator_in, index_at, field_at, prime_at, member_at, after_member, node, indexed, field, index, chain_from, nested}
+use Rattle.layout_parser.specs.Reading.{Chain, ChainReader, Stepped, behind, left_over, joined, full, step, step_before, step_after, before_by, after_by, suffixed, by_operand, by_suffix, operand, operator_at, operator_in, index_at, field_at, prime_at, member_at, after_member, node, indexed, field, index, chain_from, nested}
 
 -- ---- the loop
 
@@ -60,7 +60,7 @@ module _ (left : ℕ) (inner : ChainReader) where
   unfolding chain_from
   chain-broken n s waits ts x f xs c is inv = inv ∙ ap (behind xs) (broken-step (step left inner s waits ts) x f (chain_from left inner n s) is)
 
-  pub chain-none : (s : Setting) (waits : Bool) (ts : Tokens) (xs : List Piece) (c : Chain) → c ≡ behind xs (chain_from left inner 0 s waits ts) → (xs ≡ c.0) × (c.1 ≡ Ok ts)
+  pub chain-none : (s : Setting) (waits : Bool) (ts : Tokens) (xs : List Piece) (c : Chain) → c ≡ behind xs (chain_from left inner 0 s waits ts) → (xs ≡ c.0) × (c.1 ≡ full s waits ts)
   unfolding chain_from
   chain-none s waits ts xs c inv = (sym (ap (λ p. p.0) inv ∙ append-nil xs), ap (λ p. p.1) inv)
 

@@ -156,6 +156,11 @@ by_key s (piece.Postfix q ∷ [], Ok rest) = by_ending s q.ending rest
 by_key s (xs, Ok rest) = refuse s stop.Other rest
 by_key s (xs, Err e) = Err e
 
+-- where a chain ends that has as many pieces as it may have
+abbrev pub full : Setting → Bool → Tokens → Result Tokens SynFault
+full s true ts = Err (refusal s stop.Operand ts)
+full s false ts = Ok ts
+
 -- ---- lists that grow by parts
 
 abbrev pub no_fields : Fields
@@ -709,9 +714,10 @@ module _ (left : ℕ) (inner : ChainReader) where
   step s true = step_before s
   step s false = step_after s
 
-  -- a chain of so many pieces at most, as far as it can be read
+  -- A chain of so many pieces at most, as far as it can be read. An expression is given as many as there are tokens, which is more
+  -- than it can have.
   unfoldable pub chain_from : ℕ → Setting → Bool → Tokens → Chain
-  chain_from zero s waits ts = ([], Ok ts)
+  chain_from zero s waits ts = ([], full s waits ts)
   chain_from (suc n) s waits ts = joined (step s waits ts) (chain_from n s)
 
 -- a chain in a further nesting, where so many nestings may begin
@@ -727,6 +733,10 @@ most_nestings = 200
 abbrev pub expression : ℕ → Setting → Reader Node
 expression depth s = λ ts. finished (nested (suc (most_nestings - depth)) (length ts) s true ts)
 
+-- what is round an expression that stands in no bracket
+abbrev pub outermost : ℕ → Setting
+outermost region = record { region = region; around = around.Other; has_at = false }
+
 -- the node, and the place in the list of the token after it
 abbrev pub located : List Token → Outcome Node → Result (Node × ℕ) SynFault
 located ts (Ok p) = Ok (p.0, length ts - length p.1)
@@ -734,4 +744,9 @@ located ts (Err e) = Err e
 
 -- the reading of an expression that begins at a place of a list of tokens, in a region, with so many nestings round it
 unfoldable pub reading : List Token → ℕ → ℕ → ℕ → Result (Node × ℕ) SynFault
-reading ts from region depth = located ts (expression depth (record { region = region; around = around.Other; has_at = false }) (drop from ts))
+reading ts from region depth = located ts (expression depth (outermost region) (drop from ts))
+
+-- what a function that reads an expression ensures: this reading, unless memory fails
+abbrev pub Reads : Result (Node × ℕ) SynFault → Result (Node × ℕ) SynFault → Type 0
+Reads (Ok p) r = r ≡ Ok p
+Reads (Err e) r = e ≢ fault.Memory → r ≡ Err e

@@ -11,9 +11,9 @@ ghost use Rattle.layout_parser.specs.Nests.{Nests, Flats, Steps, ended};
 
 use crate::cursor::Cursor;
 use crate::flat::{Flat, Step};
-use crate::setting::Setting;
+use crate::setting::{Setting, Stop};
 use core_expr::Memory;
-use operator_chain::{ChainFault, Piece, tree};
+use operator_chain::{ChainFault, Piece, discard, tree};
 use std::alloc::Global;
 use std::collections::VecDeque;
 use tla_ast::{Kind, Node, SynFault};
@@ -57,7 +57,10 @@ pub fn finished(alloc: Global, flat: Flat) -> Result<Node, SynFault>
     };
     match fault {
         None => Ok(node),
-        Some(fault) => Err(fault),
+        Some(fault) => {
+            discard(node);
+            Err(fault)
+        }
     }
 }
 
@@ -141,8 +144,25 @@ impl<
                 Step::Broken(piece, fault) => return broken(pieces, piece, fault),
             }
         }
-        Ok(Flat { pieces, fault: None })
+        let fault = full(self.alloc, cursor, setting, waits)?;
+        Ok(Flat { pieces, fault })
     }
+}
+
+/// The fault of a chain that has as many pieces as it may have, where an operand must come after them.
+fn full(
+    alloc: Global,
+    cursor: &Cursor<'_>,
+    setting: Setting,
+    waits: bool,
+) -> Result<Option<SynFault>, Memory>
+    ensures { IfOk result (λ f. ended f cursor.now ≡ spec.full setting waits cursor.now) }
+{
+    if !waits {
+        return Ok(None);
+    }
+    let fault = told(cursor.refusal(alloc, setting, Stop::Operand))?;
+    Ok(Some(fault))
 }
 
 /// The chain that breaks off at a fault, behind a postfix operator that is not finished or without one.

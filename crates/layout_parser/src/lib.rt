@@ -12,7 +12,10 @@ mod grammar;
 mod mark;
 mod member;
 mod operand;
+mod reader;
 mod setting;
 mod square;
 mod step;
 mod words;
+
+pub use reader::{MOST_NESTINGS, read_expr};

@@ -1,4 +1,4 @@
-use Rattle.std.proofs.Common.{◌≡◌, sym, subst, Ok}
+use Rattle.std.proofs.Common.{◌≡◌, ◌∙◌, sym, subst, Ok}
 use Rattle.layout_parser.specs.Nests.{Steps, Flats}
 use Rattle.layout_parser.specs.Reading.{nested, chain_from, behind, step}
 use Rattle.layout_parser.proofs.Turns.{one_more, no_more}
@@ -31,4 +31,5 @@ pub returns : goal.returns
 returns g c =
     let inner = nested c.args.self.now.left in
     let e = no_more (λ n. behind c.loop-turn.pieces.items (chain_from c.args.self.now.left inner n c.args.setting c.loop-turn.waits c.loop-turn.cursor)) _ c.loop-turn._turn c.loop-turn-test.false c.loop-turn.invariant in
-    chain-none c.args.self.now.left inner c.args.setting c.loop-turn.waits c.loop-turn.cursor c.loop-turn.pieces.items _ e
+    let end = chain-none c.args.self.now.left inner c.args.setting c.loop-turn.waits c.loop-turn.cursor c.loop-turn.pieces.items _ e in
+    (end.0, end.1 ∙ sym c.in_ok-fault.ensures)

@@ -1,0 +1,47 @@
+ghost use Rattle.std.specs.Prelude.{◌<◌, ◌≤◌, length};
+ghost use Rattle.layout_parser.specs.Reading as spec;
+
+use crate::cursor::Cursor;
+use crate::grammar::{finished, read_chain};
+use crate::setting::{Around, Setting};
+use std::alloc::Global;
+use tla_ast::{Node, SynFault, Tokens};
+
+/// How many nestings an expression may have round a token of it.
+pub const MOST_NESTINGS: u64 = 200;
+
+/// Reads the expression that begins at a token of the list, from 0, of tokens whose column is over `region` alone, with `depth`
+/// nestings round it. Answers the node and the place in the list of the token after it.
+///
+/// The fault is the one of the least place: Expected where no rule goes on, or Unsupported in its stead at what the language has
+/// and this reader has not; Precedence at the first operator up to which a chain has no right tree; TooDeep at the token that
+/// would begin the 201st nesting. Brackets, argument lists, junction items, bodies, sets of bounds, the parts of IF and CASE and
+/// the right sides of definitions nest. After Lamport, "Specifying Systems", chapters 15 and 16, and "TLA+ Version 2".
+///
+/// The time is linear in the tokens read. The nesting bounds the recursion; a node may be deeper by its operators.
+#[tactic(auto, unfolding(crate::specs::Reading::reading))]
+pub fn read_expr(
+    alloc: Global,
+    tokens: &Tokens,
+    from: u64,
+    region: u64,
+    depth: u64,
+) -> Result<(Node, u64), SynFault>
+    requires within { from < length tokens.now.list }
+    requires nested { depth ≤ 200 }
+    ensures { spec.Reads result (spec.reading tokens.now.list from region depth) }
+{
+    let list = tokens.list.as_slice();
+    let mut cursor = Cursor::new(&list[from as usize..]);
+    let most = cursor.left();
+    let setting = Setting {
+        region,
+        around: Around::Other,
+        has_at: false,
+    };
+    let left = (MOST_NESTINGS - depth) as usize + 1;
+    let flat = read_chain(alloc, &mut cursor, left, most, setting, true)?;
+    let node = finished(alloc, flat)?;
+    let after = list.len().saturating_sub(cursor.left());
+    Ok((node, after as u64))
+}
