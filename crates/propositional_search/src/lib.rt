@@ -13,6 +13,8 @@
 
 mod branch;
 mod choose;
+mod closing;
+mod flags;
 mod formulas;
 mod laws;
 mod node;
