@@ -1,5 +1,5 @@
 -- Entries that a search from the start would pass over.
-use Rattle.std.proofs.Common.{◌≡◌, ℕ, zero, suc, ◌+◌, ◌<◌, ◌≤◌, ◌⊎◌, Bool, true, false, List, [], ◌∷◌, ◌++◌, length, refl, ap, sym, ◌∙◌, arith, subst, inl, inr}
+use Rattle.std.proofs.Common.{◌≡◌, ℕ, zero, suc, ◌+◌, ◌<◌, ◌≤◌, ◌⊎◌, Bool, true, false, List, [], ◌∷◌, length, refl, ap, sym, ◌∙◌, arith, subst, inl, inr}
 use Rattle.std.proofs.lemmas.Bool.{cases_lt}
 use Rattle.std.proofs.lemmas.List.{get_or_append_left, length_push}
 use Rattle.std.specs.Prelude.{Option, Some, None}
@@ -8,10 +8,9 @@ use Rattle.propositional_search.specs.declared.branch.Entry.{Entry}
 use Rattle.propositional_search.specs.declared.branch.Added.{Added}
 use Rattle.propositional_search.specs.declared.branch.Added.TheVariants.{Nothing, One, Two}
 use Rattle.propositional_search.specs.declared.branch.Current.{Current}
-use Rattle.propositional_search.specs.declared.rules.Sides.{Sides}
 use Rattle.propositional_search.specs.declared.values.Truth.{Truth}
 use Rattle.propositional_search.specs.Steps.{has_place, with_place, with_added, retired, result_of, plain_at, split_at, first_found, live_plain, live_split, live_settled, settled_by}
-use Rattle.propositional_search.specs.Branches.{entry_at, with_last, NoneBefore, HasMarks, IsMarked, IsKept}
+use Rattle.propositional_search.specs.Branches.{entry_at, with_last, NoneBefore, IsMarked, IsKept}
 
 abbrev found_or : {X : Type 0} → ℕ → Option X → Option (ℕ × X) → Option (ℕ × X)
 found_or k o rest = elim o [ Some x ↦ Some (k, x) | None ↦ rest ]

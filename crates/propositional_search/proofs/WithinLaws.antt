@@ -1,5 +1,5 @@
 -- What a turn adds are places.
-use Rattle.std.proofs.Common.{◌≡◌, ℕ, suc, ◌<◌, ◌⊎◌, Bool, true, false, List, [], ◌∷◌, length, refl, ap, sym, ◌∙◌, arith, subst, inl, inr}
+use Rattle.std.proofs.Common.{ℕ, suc, ◌<◌, Bool, true, false, List, [], ◌∷◌, length, sym, arith, subst, inl, inr}
 use Rattle.std.proofs.lemmas.Bool.{cases_lt}
 use Rattle.std.proofs.lemmas.List.{get_or_past}
 use Rattle.std.specs.Prelude.{Option, Some, None}
@@ -8,11 +8,10 @@ use Rattle.propositional_search.specs.declared.branch.Entry.{Entry}
 use Rattle.propositional_search.specs.declared.branch.Added.{Added}
 use Rattle.propositional_search.specs.declared.branch.Added.TheVariants.{Nothing}
 use Rattle.propositional_search.specs.declared.rules.Sides.{Sides}
-use Rattle.propositional_search.specs.declared.choose.Decision.{Decision}
 use Rattle.propositional_search.specs.declared.choose.Decision.TheVariants.{Closes, Stuck, Alone, Splits}
 use Rattle.propositional_search.specs.declared.values.Truth.{Truth}
 use Rattle.propositional_search.specs.declared.node.Node.TheVariants.{True, False, Symbol, Not, And, Or, Implies, Iff}
-use Rattle.propositional_search.specs.Nodes.{Below, IsBank}
+use Rattle.propositional_search.specs.Nodes.{Below}
 use Rattle.propositional_search.specs.Steps.{node_at, place_at, plain_negation, plain_node, plain_at, split_negation, split_node, split_at, all_yes, some_no, settled_by, first_found, live_plain, live_split, live_settled, closes, stands_in, denied_in, values_in, settle_or_split, decided}
 use Rattle.propositional_search.specs.Branches.{Within, IsWithin}
 use Rattle.propositional_search.specs.Ready.{Small, IsReady}

@@ -35,7 +35,7 @@ pub record AreMarks (ns : List Node) (es : List Entry) (on refuted : List Bool) 
 abbrev pub HasMarks : List Node → List Entry → Branch → Type 0
 HasMarks ns es b = AreMarks ns es b.stands.items b.denied.items b.closed
 
--- they are those of the branch's own entries
+-- the marks on the branch are those of its own entries
 abbrev pub IsMarked : List Node → Branch → Type 0
 IsMarked ns b = HasMarks ns b.entries b
 
@@ -63,11 +63,11 @@ pub record IsKept (ns : List Node) (ps : List ℕ) (c : Current) : Type 0 where
   pub plain : NoneBefore (live_plain ns ps) c.plain_from c.branch.entries
   pub split : NoneBefore (live_split ns ps) c.split_from c.branch.entries
 
--- so it stays
+-- if it was so, it is so
 abbrev pub StaysKept : List Node → Current → Current → Type 0
 StaysKept ns old new = (ps : List ℕ) → IsKept ns ps old → IsKept ns ps new
 
--- of the open branches the last is worked on and the others wait, where there is one
+-- the open branches are those that wait, with these entries last; or there is none
 abbrev pub Leaves : Bool → List (List Entry) → List (List Entry) → List Entry → Type 0
 Leaves true open_ waiting es = open_ ≡ waiting ++ es ∷ []
 Leaves false open_ waiting es = open_ ≡ []

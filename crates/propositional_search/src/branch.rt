@@ -4,7 +4,9 @@ ghost use Rattle.propositional_search.specs.Steps.{stands_in, has_place, with_pl
 ghost use Rattle.propositional_search.specs.Branches.{Within, HasMarks, IsMarked, StaysKept, with_last};
 
 use crate::closing::{closes, shuts};
-use crate::flags::{any_of, clear_denied, clear_stands, deny_all, flag_at, mark, mark_all, mark_part, no_marks};
+use crate::flags::{
+    any_of, clear_denied, clear_stands, deny_all, flag_at, mark, mark_all, mark_part, no_marks,
+};
 use crate::node::Node;
 use crate::rules::node_at;
 use sqlite_items::Items;
@@ -45,7 +47,7 @@ pub struct Current {
     pub split_from: usize,
 }
 
-/// No formulas, with marks for so many places.
+/// A branch without formulas.
 pub fn empty(alloc: Global, nodes: &[Node]) -> Result<Branch, AllocError>
     ensures entries { IfOk result (λ b. b.entries ≡ []) }
     ensures marked { IfOk result (λ b. IsMarked nodes.now b) }
@@ -57,24 +59,6 @@ pub fn empty(alloc: Global, nodes: &[Node]) -> Result<Branch, AllocError>
         stands,
         denied,
         closed: false,
-    })
-}
-
-/// The formula comes to the end, where it is not there.
-fn push_absent(
-    entries: &mut Items<Entry>,
-    formula: usize,
-    present: bool,
-) -> Result<(), AllocError>
-    requires { present ≡ has_place entries.old formula }
-    ensures { OnOk result (entries.new ≡ with_place entries.old formula) }
-{
-    if present {
-        return Ok(());
-    }
-    entries.push(Entry {
-        formula,
-        live: true,
     })
 }
 
@@ -160,6 +144,20 @@ pub fn apply(
     Ok(())
 }
 
+/// The formula comes to the end, where it is not there.
+fn push_absent(entries: &mut Items<Entry>, formula: usize, present: bool) -> Result<(), AllocError>
+    requires { present ≡ has_place entries.old formula }
+    ensures { OnOk result (entries.new ≡ with_place entries.old formula) }
+{
+    if present {
+        return Ok(());
+    }
+    entries.push(Entry {
+        formula,
+        live: true,
+    })
+}
+
 /// The formulas come to the end in order, where they are not there by the marks of the entries.
 fn push_all(entries: &mut Items<Entry>, stands: &[bool], added: Added) -> Result<(), AllocError>
     requires within { Within (length stands.now) added }
@@ -194,7 +192,7 @@ pub fn result_of(
     Ok(entries)
 }
 
-/// Other entries take the place of the branch's. The marks of both are gone through, and no others.
+/// Other entries take the place of the branch's. Only the marks of these and of those are gone through.
 pub fn reopen(nodes: &[Node], branch: &mut Branch, entries: Items<Entry>)
     requires { IsMarked nodes.now branch.old }
     ensures entries { branch.new.entries ≡ entries }

@@ -9,10 +9,10 @@ ghost use Rattle.propositional_search.specs.Branches.{IsMarked, StaysKept, IsWit
 
 use crate::branch::{Branch, Current, Entry, add, apply, empty, reopen, result_of};
 use crate::choose::{Decision, decided};
+use crate::flags::mark;
 use crate::formulas::{Formulas, prepare};
 use crate::node::Node;
 use crate::rules::{node_at, place_at};
-use crate::flags::mark;
 use core_expr::Memory;
 use sqlite_items::Items;
 use std::alloc::{AllocError, Global};
@@ -38,11 +38,7 @@ pub enum Ending {
 }
 
 /// The top of the waiting branches is worked on next, where there is one.
-fn take_next(
-    nodes: &[Node],
-    waiting: &mut Items<Items<Entry>>,
-    current: &mut Current,
-) -> bool
+fn take_next(nodes: &[Node], waiting: &mut Items<Items<Entry>>, current: &mut Current) -> bool
     requires { IsMarked nodes.now current.old.branch }
     ensures left { Leaves result waiting.old waiting.new current.new.branch.entries }
     ensures kept { StaysKept nodes.now current.old current.new }

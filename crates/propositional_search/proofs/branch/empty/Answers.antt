@@ -1,4 +1,4 @@
-use Rattle.std.proofs.Common.{◌≡◌, length, false, sym, subst}
+use Rattle.std.proofs.Common.{length, false, sym, subst}
 use Rattle.std.specs.Prelude.{replicate, []}
 use Rattle.propositional_search.specs.Branches.{AreMarks}
 use Rattle.propositional_search.proofs.MarkLaws.{marks-none}

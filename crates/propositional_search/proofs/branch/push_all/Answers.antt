@@ -1,5 +1,5 @@
-use Rattle.std.proofs.Common.{◌≡◌, ◌<◌, ◌||◌, length, nat_eq, sym, ap, ◌∙◌, subst}
-use Rattle.propositional_search.specs.Steps.{has_place, with_place, flag_at}
+use Rattle.std.proofs.Common.{◌≡◌, ◌||◌, length, nat_eq, sym, ap, ◌∙◌, subst}
+use Rattle.propositional_search.specs.Steps.{has_place}
 use Rattle.propositional_search.specs.Branches.{Within}
 use Rattle.propositional_search.proofs.MarkLaws.{stands-place, has-with_place}
 use Rattle.propositional_search.proofs.branch.push_all.Goals as goal
