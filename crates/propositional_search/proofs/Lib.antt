@@ -5,6 +5,9 @@ pub mod Shows
 pub mod RunLaws
 pub mod RuleLaws
 pub mod Marks
+pub mod MarkLaws
+pub mod PassLaws
+pub mod WithinLaws
 pub mod ValueLaws
 pub mod CloseLaws
 pub mod TurnLaws

@@ -30,7 +30,7 @@ all_false zero i = refl
 all_false (suc n) zero = refl
 all_false (suc n) (suc i) = all_false n i
 
-length-replicate : (n : ℕ) → length (replicate n false) ≡ n
+pub length-replicate : (n : ℕ) → length (replicate n false) ≡ n
 length-replicate zero = refl
 length-replicate (suc n) = ap suc (length-replicate n)
 
@@ -67,6 +67,14 @@ from_none step hits k m n xs i h =
     marked step hits k m (replicate n false) xs i (omega (arith, length-replicate n))
     ∙ ap (λ b. b || list_any (λ y. hits y i) xs) (all_false n i)
 
+pub length-fold : {X : Type 0} (step : List Bool → X → List Bool) → ((fs : List Bool) (x : X) → length (step fs x) ≡ length fs) → (fs : List Bool) (xs : List X) → length (fold step fs xs) ≡ length fs
+length-fold step k fs [] = refl
+length-fold step k fs (x ∷ xs) = length-fold step k (step fs x) xs ∙ k fs x
+
+pub length-stands_in : (n : ℕ) (es : List Entry) → length (stands_in n es) ≡ n
+unfolding stands_in
+length-stands_in n es = length-fold mark_entry (λ fs e. length-mark fs e.formula) (replicate n false) es ∙ length-replicate n
+
 pub stands-marked : (n : ℕ) (es : List Entry) (i : ℕ) → i < n → flag_at (stands_in n es) i ≡ has_place es i
 unfolding stands_in
 stands-marked n es i h =
@@ -87,6 +95,10 @@ at_part fs _ i h = refl
 abbrev pub denied_place : List Node → List Entry → ℕ → Bool
 denied_place ns es i = list_any (λ e. is_negation_of (node_at ns e.formula) i) es
 
+pub length-denied_in : (ns : List Node) (es : List Entry) → length (denied_in ns es) ≡ length ns
+unfolding denied_in
+length-denied_in ns es = length-fold (λ fs (e : Entry). mark_part fs (node_at ns e.formula)) (λ fs e. length-part fs (node_at ns e.formula)) (replicate (length ns) false) es ∙ length-replicate (length ns)
+
 pub denied-marked : (ns : List Node) (es : List Entry) (i : ℕ) → i < length ns → flag_at (denied_in ns es) i ≡ denied_place ns es i
 unfolding denied_in
 denied-marked ns es i h =
@@ -103,10 +115,6 @@ length-symbol fs _ = refl
 at_symbol : (fs : List Bool) (n : Node) (i : ℕ) → i < length fs → get_or (mark_symbol fs n) i false ≡ (is_symbol n i || get_or fs i false)
 at_symbol fs (Symbol a) i h = at_mark fs a i h
 at_symbol fs _ i h = refl
-
-length-fold : {X : Type 0} (step : List Bool → X → List Bool) → ((fs : List Bool) (x : X) → length (step fs x) ≡ length fs) → (fs : List Bool) (xs : List X) → length (fold step fs xs) ≡ length fs
-length-fold step k fs [] = refl
-length-fold step k fs (x ∷ xs) = length-fold step k (step fs x) xs ∙ k fs x
 
 pub length-values_of : (ns : List Node) (n : ℕ) (es : List Entry) → length (values_of ns n es) ≡ n
 unfolding values_of

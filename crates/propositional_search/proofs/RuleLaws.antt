@@ -12,9 +12,10 @@ use Rattle.propositional_search.specs.declared.branch.Added.{Added}
 use Rattle.propositional_search.specs.declared.rules.Sides.{Sides}
 use Rattle.propositional_search.specs.Nodes.{tree_of, tree_in, trees_of, Below, IsBank, IsArena}
 use Rattle.propositional_search.specs.Steps.{node_at, place_at, plain_negation, plain_node, plain_at, split_negation, split_node, split_at, first_found, live_plain, live_split}
+use Rattle.propositional_search.specs.Branches.{Within}
 use Rattle.propositional_search.specs.Ready.{Small, IsReady}
 use Rattle.propositional_search.proofs.NodeLaws.{Below-more, length-trees_of}
-use Rattle.propositional_search.proofs.Shows.{Shows, trees_added, Within}
+use Rattle.propositional_search.proofs.Shows.{Shows, trees_added}
 
 pub bank_of : (ns : List Node) → IsArena ns → IsBank ns (trees_of ns)
 unfolding IsArena

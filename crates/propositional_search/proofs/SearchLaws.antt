@@ -221,6 +221,10 @@ all_within : (old ns : List Node) → Extends old ns → (facts : List ℕ) → 
 unfolding Extends
 all_within old ns x facts h k d q = let l : get_or facts k d < length ns = (x (get_or facts k d) (h k d q)).0 in omega (arith, length-trees_of ns)
 
+pub facts_within : (old ns : List Node) → Extends old ns → (facts : List ℕ) → All (λ i. i < length old) facts → All (λ i. i < length ns) facts
+unfolding Extends
+facts_within old ns x facts h k d q = (x (get_or facts k d) (h k d q)).0
+
 -- the answer, from the formulas as they were
 pub answers_so : OnlyConnectiveRules → OnlyConnectiveClosings → (old ns : List Node) (ps : List ℕ) (facts : List ℕ) (goal symbols turns : ℕ)
     → IsReady ns ps

@@ -10,6 +10,7 @@ use Rattle.propositional_search.specs.declared.branch.Entry.{Entry}
 use Rattle.propositional_search.specs.declared.branch.Added.{Added}
 use Rattle.propositional_search.specs.declared.branch.Added.TheVariants.{Nothing, One, Two}
 use Rattle.propositional_search.specs.Nodes.{tree_of, IsDistinct}
+use Rattle.propositional_search.specs.Branches.{Within}
 use Rattle.propositional_search.specs.Steps.{has_place, with_place, with_added, retired, result_of}
 
 -- entries that show a branch, but for its counts and needs
@@ -22,11 +23,6 @@ abbrev pub trees_added : List Tree → Added → List Tree
 trees_added ts Nothing = []
 trees_added ts (One i) = tree_of ts i ∷ []
 trees_added ts (Two i j) = tree_of ts i ∷ tree_of ts j ∷ []
-
-abbrev pub Within : ℕ → Added → Type 0
-Within n Nothing = Unit {0}
-Within n (One i) = i < n
-Within n (Two i j) = (i < n) × (j < n)
 
 pub same-not-false : (a b : Tree) → (a ≡ b → ⊥) → same a b ≡ false
 same-not-false a b h = go (same a b) refl

@@ -20,8 +20,9 @@ use Rattle.propositional_search.specs.declared.values.Truth.{Truth}
 use Rattle.propositional_search.specs.declared.values.Truth.TheVariants.{Yes, No, Unknown}
 use Rattle.propositional_search.specs.Nodes.{tree_of, trees_of}
 use Rattle.propositional_search.specs.Steps.{truth_at, yes_of, no_of, is_yes, is_no, all_yes, some_no, settled_by, live_plain, live_split, live_settled, first_found, closes, stands_in, denied_in, values_in, settle_or_split, decided}
+use Rattle.propositional_search.specs.Branches.{Within}
 use Rattle.propositional_search.specs.Ready.{IsReady}
-use Rattle.propositional_search.proofs.Shows.{Shows, trees_added, Within}
+use Rattle.propositional_search.proofs.Shows.{Shows, trees_added}
 use Rattle.propositional_search.proofs.RuleLaws.{side_of, AddsStep, SplitsStep, Agrees, FoundAs, oldest_found, live_plain-agrees, live_split-agrees}
 use Rattle.propositional_search.proofs.ValueLaws.{meant, Valued_below, values-shown}
 use Rattle.propositional_search.proofs.CloseLaws.{open_none, none_open}

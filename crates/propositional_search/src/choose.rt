@@ -1,10 +1,11 @@
 ghost use Rattle.std.specs.Prelude.{◌≡◌, IfOk};
-ghost use Rattle.propositional_search.specs.Steps.{shuts, closes, live_plain, live_split, live_settled, is_yes, is_no, all_yes, some_no, settled_by, first_found, settle_or_split, decided};
+ghost use Rattle.propositional_search.specs.Steps.{live_plain, live_split, live_settled, is_yes, is_no, all_yes, some_no, settled_by, first_found, settle_or_split, decided};
+ghost use Rattle.propositional_search.specs.Branches.{IsMarked, NoneBefore, IsKept};
 
-use crate::branch::{Added, Entry};
+use crate::branch::{Added, Branch, Current, Entry};
 use crate::node::Node;
-use crate::rules::{Sides, node_at, plain_at, split_at};
-use crate::values::{Truth, flag_at, stands_in, truth_at, values_in};
+use crate::rules::{Sides, plain_at, split_at};
+use crate::values::{Truth, truth_at, values_in};
 use std::alloc::{AllocError, Global};
 
 /// What a turn does with a branch.
@@ -16,31 +17,6 @@ pub enum Decision {
     Alone(usize, Added),
     /// An entry splits the branch.
     Splits(usize, Sides),
-}
-
-/// Whether a formula closes its branch: FALSE, ~TRUE, and the Not of one that is on it.
-fn shuts(nodes: &[Node], stands: &[bool], node: Node) -> bool
-    ensures { result ≡ shuts nodes.now stands.now node }
-{
-    match node {
-        Node::False => true,
-        Node::Not(part) => match node_at(nodes, part) {
-            Node::True => true,
-            _ => flag_at(stands, part),
-        },
-        _ => false,
-    }
-}
-
-fn closes(nodes: &[Node], stands: &[bool], entries: &[Entry]) -> bool
-    ensures { result ≡ closes nodes.now stands.now entries.now }
-{
-    for entry in entries {
-        if shuts(nodes, stands, node_at(nodes, entry.formula)) {
-            return true;
-        }
-    }
-    false
 }
 
 fn live_plain(nodes: &[Node], negations: &[usize], entry: Entry) -> Option<Added>
@@ -132,42 +108,60 @@ fn live_settled(
     }
 }
 
-/// The oldest live entry that adds without a split.
-fn oldest_plain(nodes: &[Node], negations: &[usize], entries: &[Entry]) -> Option<(usize, Added)>
-    ensures { result ≡ first_found (live_plain nodes.now negations.now) 0 entries.now }
+/// The oldest live entry that adds without a split. It is looked for from a place on, which moves up to it.
+fn oldest_plain(
+    nodes: &[Node],
+    negations: &[usize],
+    entries: &[Entry],
+    from: &mut usize,
+) -> Option<(usize, Added)>
+    requires { NoneBefore (live_plain nodes.now negations.now) from.old entries.now }
+    ensures found { result ≡ first_found (live_plain nodes.now negations.now) 0 entries.now }
+    ensures passed { NoneBefore (live_plain nodes.now negations.now) from.new entries.now }
 {
-    for (at, entry) in entries.iter().enumerate() {
-        if let Some(added) = live_plain(nodes, negations, *entry) {
-            return Some((at, added));
+    while *from < entries.len() {
+        if let Some(added) = live_plain(nodes, negations, entries[*from]) {
+            return Some((*from, added));
         }
+        *from += 1;
     }
     None
 }
 
-/// The oldest live entry that the values settle.
+/// The oldest live entry that splits. It is looked for from a place on, which moves up to it.
+fn oldest_split(
+    nodes: &[Node],
+    negations: &[usize],
+    entries: &[Entry],
+    from: &mut usize,
+) -> Option<(usize, Sides)>
+    requires { NoneBefore (live_split nodes.now negations.now) from.old entries.now }
+    ensures found { result ≡ first_found (live_split nodes.now negations.now) 0 entries.now }
+    ensures passed { NoneBefore (live_split nodes.now negations.now) from.new entries.now }
+{
+    while *from < entries.len() {
+        if let Some(sides) = live_split(nodes, negations, entries[*from]) {
+            return Some((*from, sides));
+        }
+        *from += 1;
+    }
+    None
+}
+
+/// The oldest live entry that the values settle, looked for from a place on.
 fn oldest_settled(
     nodes: &[Node],
     negations: &[usize],
     values: &[Truth],
     entries: &[Entry],
+    from: usize,
 ) -> Option<(usize, Added)>
+    requires { NoneBefore (live_settled nodes.now negations.now values.now) from entries.now }
     ensures { result ≡ first_found (live_settled nodes.now negations.now values.now) 0 entries.now }
 {
-    for (at, entry) in entries.iter().enumerate() {
-        if let Some(added) = live_settled(nodes, negations, values, *entry) {
+    for at in from..entries.len() {
+        if let Some(added) = live_settled(nodes, negations, values, entries[at]) {
             return Some((at, added));
-        }
-    }
-    None
-}
-
-/// The oldest live entry that splits.
-fn oldest_split(nodes: &[Node], negations: &[usize], entries: &[Entry]) -> Option<(usize, Sides)>
-    ensures { result ≡ first_found (live_split nodes.now negations.now) 0 entries.now }
-{
-    for (at, entry) in entries.iter().enumerate() {
-        if let Some(sides) = live_split(nodes, negations, *entry) {
-            return Some((at, sides));
         }
     }
     None
@@ -179,16 +173,20 @@ fn settle_or_split(
     alloc: Global,
     nodes: &[Node],
     negations: &[usize],
-    stands: &[bool],
-    entries: &[Entry],
+    branch: &Branch,
+    from: &mut usize,
 ) -> Result<Decision, AllocError>
-    ensures { IfOk result (λ d. d ≡ settle_or_split nodes.now negations.now stands.now entries.now) }
+    requires marked { IsMarked nodes.now branch.now }
+    requires passed { NoneBefore (live_split nodes.now negations.now) from.old branch.now.entries }
+    ensures decision { IfOk result (λ d. d ≡ settle_or_split nodes.now negations.now branch.now.stands.items branch.now.entries) }
+    ensures passed { NoneBefore (live_split nodes.now negations.now) from.new branch.now.entries }
 {
-    match oldest_split(nodes, negations, entries) {
+    let entries = branch.entries.as_slice();
+    match oldest_split(nodes, negations, entries, from) {
         None => Ok(Decision::Stuck),
         Some((at, sides)) => {
-            let values = values_in(alloc, nodes, stands, entries)?;
-            match oldest_settled(nodes, negations, &values, entries) {
+            let values = values_in(alloc, nodes, &branch.stands, &branch.denied)?;
+            match oldest_settled(nodes, negations, &values, entries, *from) {
                 Some((at, added)) => Ok(Decision::Alone(at, added)),
                 None => Ok(Decision::Splits(at, sides)),
             }
@@ -202,16 +200,25 @@ pub fn decided(
     alloc: Global,
     nodes: &[Node],
     negations: &[usize],
-    entries: &[Entry],
+    current: &mut Current,
 ) -> Result<Decision, AllocError>
-    ensures { IfOk result (λ d. d ≡ decided nodes.now negations.now entries.now) }
+    requires { IsKept nodes.now negations.now current.old }
+    ensures decision { IfOk result (λ d. d ≡ decided nodes.now negations.now current.old.branch.entries) }
+    ensures same { current.new.branch ≡ current.old.branch }
+    ensures kept { IsKept nodes.now negations.now current.new }
 {
-    let stands = stands_in(alloc, nodes.len(), entries)?;
-    if closes(nodes, &stands, entries) {
+    if current.branch.closed {
         return Ok(Decision::Closes);
     }
-    if let Some((at, added)) = oldest_plain(nodes, negations, entries) {
+    let entries = current.branch.entries.as_slice();
+    if let Some((at, added)) = oldest_plain(nodes, negations, entries, &mut current.plain_from) {
         return Ok(Decision::Alone(at, added));
     }
-    settle_or_split(alloc, nodes, negations, &stands, entries)
+    settle_or_split(
+        alloc,
+        nodes,
+        negations,
+        &current.branch,
+        &mut current.split_from,
+    )
 }

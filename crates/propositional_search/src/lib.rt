@@ -8,11 +8,15 @@
 //!   Want of memory is its only other answer.
 //! - `saturated_answers_falsify` and `proved_answers_hold` say what answers mean under valuations.
 //!
-//! A turn costs time linear in the branch and in the number of formulas; nothing recurses on the depth of a formula.
+//! A turn by a rule that adds without a split takes time in what it adds, where the turns of a branch are taken together.
+//! A turn that settles or splits goes through all formulas for their values, and a split copies its branch. Nothing
+//! recurses on the depth of a formula.
 #![tactic(auto)]
 
 mod branch;
 mod choose;
+mod closing;
+mod flags;
 mod formulas;
 mod laws;
 mod node;

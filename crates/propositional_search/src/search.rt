@@ -3,14 +3,16 @@ ghost use Rattle.std.specs.List.{All};
 ghost use Rattle.tableau_definition.specs.Search.{search};
 ghost use Rattle.propositional_search.specs.Nodes.{tree_at};
 ghost use Rattle.propositional_search.specs.Answers.{Answers, answer_of};
-ghost use Rattle.propositional_search.specs.Steps.{with_place, advanced, start_at, run_at, mark_symbol, values_of};
+ghost use Rattle.propositional_search.specs.Steps.{place_at, advanced, start_at, run_at, mark_symbol, values_of};
+ghost use Rattle.propositional_search.specs.Ready.{IsReady};
+ghost use Rattle.propositional_search.specs.Branches.{IsMarked, StaysKept, IsWithin, Leaves};
 
-use crate::branch::{Added, Entry, add, result_of};
+use crate::branch::{Branch, Current, Entry, add, apply, empty, reopen, result_of};
 use crate::choose::{Decision, decided};
+use crate::flags::mark;
 use crate::formulas::{Formulas, prepare};
 use crate::node::Node;
 use crate::rules::{node_at, place_at};
-use crate::values::mark;
 use core_expr::Memory;
 use sqlite_items::Items;
 use std::alloc::{AllocError, Global};
@@ -35,25 +37,57 @@ pub enum Ending {
     Spent(u64),
 }
 
-/// The branches that a turn leaves come to the top of the open ones, the first last.
-fn advance(
-    alloc: Global,
-    waiting: &mut Items<Items<Entry>>,
-    branch: Items<Entry>,
-    choice: Decision,
-) -> Result<(), AllocError>
-    ensures { OnOk result (waiting.new ≡ advanced waiting.old branch choice) }
+/// The top of the waiting branches is worked on next, where there is one.
+fn take_next(nodes: &[Node], waiting: &mut Items<Items<Entry>>, current: &mut Current) -> bool
+    requires { IsMarked nodes.now current.old.branch }
+    ensures left { Leaves result waiting.old waiting.new current.new.branch.entries }
+    ensures kept { StaysKept nodes.now current.old current.new }
 {
-    match choice {
-        Decision::Closes => Ok(()),
-        Decision::Stuck => Ok(()),
-        Decision::Alone(at, added) => waiting.push(result_of(branch, at, added)?),
-        Decision::Splits(at, sides) => {
-            let copy = Items::from_slice(alloc, branch.as_slice())?;
-            waiting.push(result_of(copy, at, sides.right)?)?;
-            waiting.push(result_of(branch, at, sides.left)?)
+    match waiting.pop() {
+        None => false,
+        Some(entries) => {
+            reopen(nodes, &mut current.branch, entries);
+            current.plain_from = 0;
+            current.split_from = 0;
+            true
         }
     }
+}
+
+/// A turn. The branches that it leaves come to the top of the open ones, the first last, and the top is worked on next.
+/// The answer is whether there is one.
+fn advance(
+    alloc: Global,
+    nodes: &[Node],
+    waiting: &mut Items<Items<Entry>>,
+    current: &mut Current,
+    choice: Decision,
+) -> Result<bool, AllocError>
+    requires within { IsWithin (length nodes.now) choice }
+    requires marked { IsMarked nodes.now current.old.branch }
+    ensures left { IfOk result (λ left. Leaves left (advanced waiting.old current.old.branch.entries choice) waiting.new current.new.branch.entries) }
+    ensures kept { OnOk result (StaysKept nodes.now current.old current.new) }
+{
+    match choice {
+        Decision::Closes => Ok(take_next(nodes, waiting, current)),
+        Decision::Stuck => Ok(take_next(nodes, waiting, current)),
+        Decision::Alone(at, added) => {
+            apply(nodes, current, at, added)?;
+            Ok(true)
+        }
+        Decision::Splits(at, sides) => {
+            let other = result_of(alloc, &current.branch, at, sides.right)?;
+            waiting.push(other)?;
+            apply(nodes, current, at, sides.left)?;
+            Ok(true)
+        }
+    }
+}
+
+fn entries_of(current: Current) -> Items<Entry>
+    ensures { result ≡ current.branch.entries }
+{
+    current.branch.entries
 }
 
 /// Turns from a branch on, at most `limit`.
@@ -61,43 +95,54 @@ fn run(
     alloc: Global,
     nodes: &[Node],
     negations: &[usize],
-    start: Items<Entry>,
+    start: Branch,
     limit: u64,
 ) -> Result<Ending, AllocError>
-    ensures { IfOk result (λ e. e ≡ run_at nodes.now negations.now limit 0 (start ∷ [])) }
+    requires ready { IsReady nodes.now negations.now }
+    requires marked { IsMarked nodes.now start }
+    ensures { IfOk result (λ e. e ≡ run_at nodes.now negations.now limit 0 (start.entries ∷ [])) }
 {
     let mut waiting = Items::new(alloc);
-    waiting.push(start)?;
+    let mut current = Current {
+        branch: start,
+        plain_from: 0,
+        split_from: 0,
+    };
     let mut used = 0;
-    while let Some(branch) = waiting.pop() {
-        let choice = decided(alloc, nodes, negations, branch.as_slice())?;
+    'turns: loop {
+        let choice = decided(alloc, nodes, negations, &mut current)?;
         if let Decision::Stuck = choice {
-            return Ok(Ending::Saturated(branch, used));
+            return Ok(Ending::Saturated(entries_of(current), used));
         }
         if used == limit {
             return Ok(Ending::Spent(used));
         }
-        advance(alloc, &mut waiting, branch, choice)?;
         used += 1;
+        if !advance(alloc, nodes, &mut waiting, &mut current, choice)? {
+            return Ok(Ending::Closed(used));
+        }
     }
-    Ok(Ending::Closed(used))
 }
 
 /// The facts in order, then the negation of the goal.
 #[tactic(auto, unfolding(crate::specs::Steps::start_at))]
 fn start_of(
     alloc: Global,
+    nodes: &[Node],
     negations: &[usize],
     facts: &[usize],
     goal: usize,
-) -> Result<Items<Entry>, AllocError>
-    ensures { IfOk result (λ b. b ≡ start_at negations.now facts.now goal) }
+) -> Result<Branch, AllocError>
+    requires facts { All (λ i. i < length nodes.now) facts.now }
+    requires goal { place_at negations.now goal < length nodes.now }
+    ensures entries { IfOk result (λ b. b.entries ≡ start_at negations.now facts.now goal) }
+    ensures marked { IfOk result (λ b. IsMarked nodes.now b) }
 {
-    let mut branch = Items::new(alloc);
+    let mut branch = empty(alloc, nodes)?;
     for fact in facts {
-        add(&mut branch, *fact)?;
+        add(nodes, &mut branch, *fact)?;
     }
-    add(&mut branch, place_at(negations, goal))?;
+    add(nodes, &mut branch, place_at(negations, goal))?;
     Ok(branch)
 }
 
@@ -162,7 +207,7 @@ pub fn decide(
     only_connective_rules();
     only_connective_closings();
     let prepared = prepare(alloc, formulas)?;
-    let start = start_of(alloc, &prepared.negations, facts, goal)?;
+    let start = start_of(alloc, &prepared.nodes, &prepared.negations, facts, goal)?;
     let ending = run(alloc, &prepared.nodes, &prepared.negations, start, turns)?;
     Ok(answer_of(alloc, &prepared.nodes, symbols, ending)?)
 }

@@ -110,15 +110,15 @@ fn goes_through_many_negations(rt: HostRuntime) -> Result<(), Fail> {
     let alloc = rt.alloc();
     let mut formulas = Formulas::new(alloc);
     let mut goal = formulas.symbol(0)?;
-    for _ in 0..600 {
+    for _ in 0..20_000 {
         goal = negated(&mut formulas, goal)?;
     }
     assert!(rt; goal < formulas.len());
-    let answer = decide(alloc, formulas, &[], goal, 1, 1000)?;
+    let answer = decide(alloc, formulas, &[], goal, 1, 20_000)?;
     let told = format!(in alloc; "{answer:?}")?;
     assert_eq!(rt;
         told.as_str(),
-        "Saturated { values: Items { items: [false] }, turns: 300 }"
+        "Saturated { values: Items { items: [false] }, turns: 10000 }"
     );
     Ok(())
 }

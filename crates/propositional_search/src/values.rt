@@ -1,9 +1,8 @@
-ghost use Rattle.std.specs.Prelude.{◌≡◌, [], IfOk, fold, replicate, slice_set, false, true};
-ghost use Rattle.propositional_search.specs.Steps.{flag_at, truth_at, opposite, both_true, one_true, same_truth, mark_entry, mark_part, by_parts, stands_in, denied_in, value_at, with_value, values_in};
+ghost use Rattle.std.specs.Prelude.{◌≡◌, IfOk};
+ghost use Rattle.propositional_search.specs.Steps.{truth_at, opposite, both_true, one_true, same_truth, by_parts, value_at, values_in};
 
-use crate::branch::Entry;
+use crate::flags::flag_at;
 use crate::node::Node;
-use crate::rules::node_at;
 use std::alloc::{AllocError, Global};
 
 /// The value of a formula on a branch.
@@ -12,16 +11,6 @@ pub enum Truth {
     Yes,
     No,
     Unknown,
-}
-
-/// Whether a place is marked.
-pub fn flag_at(flags: &[bool], place: usize) -> bool
-    ensures { result ≡ flag_at flags.now place }
-{
-    match flags.get(place) {
-        Some(flag) => *flag,
-        None => false,
-    }
 }
 
 /// The value of a place, unknown where there is none.
@@ -76,47 +65,6 @@ fn same_truth(x: Truth, y: Truth) -> Truth
     }
 }
 
-/// Marks a place, where it is one.
-pub fn mark(flags: &mut [bool], place: usize)
-    ensures { flags.new ≡ slice_set flags.old place true }
-{
-    if place < flags.len() {
-        flags[place] = true;
-    }
-}
-
-fn mark_part(flags: &mut [bool], node: Node)
-    ensures { flags.new ≡ mark_part flags.old node }
-{
-    if let Node::Not(part) = node {
-        mark(flags, part);
-    }
-}
-
-/// The places of the formulas on a branch.
-#[tactic(auto, unfolding(crate::specs::Steps::stands_in))]
-pub fn stands_in(alloc: Global, count: usize, entries: &[Entry]) -> Result<Vec<bool>, AllocError>
-    ensures { IfOk result (λ flags. flags.items ≡ stands_in count entries.now) }
-{
-    let mut flags = vec![in alloc; false; count]?;
-    for entry in entries {
-        mark(&mut flags, entry.formula);
-    }
-    Ok(flags)
-}
-
-/// The places of the formulas whose negations are on a branch.
-#[tactic(auto, unfolding(crate::specs::Steps::denied_in))]
-fn denied_in(alloc: Global, nodes: &[Node], entries: &[Entry]) -> Result<Vec<bool>, AllocError>
-    ensures { IfOk result (λ flags. flags.items ≡ denied_in nodes.now entries.now) }
-{
-    let mut flags = vec![in alloc; false; nodes.len()]?;
-    for entry in entries {
-        mark_part(&mut flags, node_at(nodes, entry.formula));
-    }
-    Ok(flags)
-}
-
 /// The value of the node at the next place, from those of its parts.
 fn by_parts(values: &[Truth], node: Node) -> Truth
     ensures { result ≡ by_parts values.now node }
@@ -144,23 +92,22 @@ fn value_at(stands: bool, denied: bool, values: &[Truth], node: Node) -> Truth
     }
 }
 
-/// The value of each formula on a branch.
+/// The value of each formula, from the marks.
 #[tactic(auto, unfolding(crate::specs::Steps::values_in))]
 pub fn values_in(
     alloc: Global,
     nodes: &[Node],
     stands: &[bool],
-    entries: &[Entry],
+    denied: &[bool],
 ) -> Result<Vec<Truth>, AllocError>
-    ensures { IfOk result (λ values. values.items ≡ values_in nodes.now stands.now (denied_in nodes.now entries.now)) }
+    ensures { IfOk result (λ values. values.items ≡ values_in nodes.now stands.now denied.now) }
 {
-    let denied = denied_in(alloc, nodes, entries)?;
     let mut values = Vec::new(alloc);
     for node in nodes {
         let place = values.len();
         values.push(value_at(
             flag_at(stands, place),
-            flag_at(&denied, place),
+            flag_at(denied, place),
             &values,
             *node,
         ))?;
