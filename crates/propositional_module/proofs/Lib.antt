@@ -1,0 +1,9 @@
+pub mod Ends
+pub mod Runs
+pub mod Known
+pub mod Terms
+pub mod Walk
+pub mod Whole
+pub mod Readback
+pub mod Said
+pub mod Earliest

@@ -1,0 +1,18 @@
+//! What the definitions mean, in the words of the subject.
+
+ghost use Rattle.propositional_module.specs.Laws.{EarliestStandsFirst, PrefixReadsBack, StatementsAreFormulas};
+
+/// The prefix notation of a formula, read back from the right with a stack, leaves its core formula alone.
+pub fn prefix_notation_reads_back()
+    ensures { PrefixReadsBack }
+{}
+
+/// In a module that is read, the statement of each theorem is the core formula of its expression.
+pub fn statements_are_formulas()
+    ensures { StatementsAreFormulas }
+{}
+
+/// The earliest of some places is one of them, and none of them stands before it.
+pub fn earliest_stands_first()
+    ensures { EarliestStandsFirst }
+{}
