@@ -1,6 +1,6 @@
 -- The ending of a word.
 use Rattle.std.specs.Prelude.{◌≡◌, ◌≢◌, ℕ, ◌+◌, Bool, true, false, List, [], ◌∷◌, ◌++◌, length, codes}
-use Rattle.std.proofs.Common.{refl, ap, sym, ◌∙◌, arith, length-append}
+use Rattle.std.proofs.Common.{refl, ap, ◌∙◌, arith, length-append}
 use Rattle.core_expr.specs.Terms.{lists_equal}
 use Rattle.core_expr.proofs.Equal.{lists-same}
 use Rattle.proof_manager.specs.Words.{without_ending}

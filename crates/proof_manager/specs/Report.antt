@@ -1,7 +1,10 @@
--- The report of a run on one theorem.
-use Rattle.std.specs.Prelude.{◌≡◌, ℕ, Bool, true, false, List, [], ◌∷◌, ◌++◌, length, codes, decimal}
+-- The report of a run on a module.
+use Rattle.std.specs.Prelude.{ℕ, Bool, true, false, List, [], ◌∷◌, ◌++◌, Option, Some, None, codes, decimal, slice_index_or}
+use Rattle.tla_ast.specs.declared.place.Place.{Place}
 use Rattle.propositional_search.specs.declared.search.Answer.{Answer}
 use Rattle.propositional_search.specs.declared.search.Answer.TheVariants.{Proved, Saturated, Spent}
+use Rattle.propositional_module.specs.declared.theorem.Theorem.{Theorem}
+use Rattle.propositional_answer.specs.Answer.{is_proved}
 
 abbrev pub Bytes : Type 0
 Bytes = List ℕ
@@ -9,6 +12,15 @@ Bytes = List ℕ
 -- a line with its line feed
 abbrev pub line : Bytes → Bytes
 line text = text ++ 10 ∷ []
+
+-- a place: its line and its column
+abbrev pub place_text : Place → Bytes
+place_text place = decimal place.line ++ codes ":" ++ decimal place.column
+
+-- a theorem's name; `-` where it has none
+abbrev pub name_text : Option Bytes → Bytes
+name_text None = codes "-"
+name_text (Some name) = name
 
 abbrev pub truth_text : Bool → Bytes
 truth_text true = codes "TRUE"
@@ -36,29 +48,26 @@ verdict_text names (Proved turns) = codes "proved, " ++ decimal turns ++ codes "
 verdict_text names (Saturated values turns) = codes "saturated, " ++ decimal turns ++ codes " turns" ++ codes ": " ++ valuation_text names values
 verdict_text names (Spent turns) = codes "spent, " ++ decimal turns ++ codes " turns"
 
--- a saturated answer has as many values
-abbrev pub HasValues : ℕ → Answer → Type 0
-HasValues n (Proved turns) = Unit {0}
-HasValues n (Saturated values turns) = length values ≡ n
-HasValues n (Spent turns) = Unit {0}
-
-abbrev pub is_proved : Answer → Bool
-is_proved (Proved turns) = true
-is_proved (Saturated values turns) = false
-is_proved (Spent turns) = false
-
 abbrev pub status_text : Bool → Bytes
 status_text true = codes "proved"
 status_text false = codes "unproved"
 
-abbrev pub count_text : Bool → Bytes
-count_text true = codes "1 theorems, 1 proved"
-count_text false = codes "1 theorems, 0 proved"
+-- the line of a theorem whose leaf has this answer
+abbrev pub theorem_line : Theorem → Answer → Bytes
+theorem_line t answer = line (codes "theorem " ++ name_text t.name ++ codes " " ++ place_text t.place ++ codes " " ++ status_text (is_proved answer))
 
--- the report on one theorem, whose word THEOREM stands at 3:1 and whose leaf stands in line 3 at this column
-unfoldable pub report : Bytes → Bytes → ℕ → List Bytes → Answer → Bytes
-report name theorem column names answer =
-    line (codes "module " ++ name)
-    ++ line (codes "theorem " ++ theorem ++ codes " 3:1 " ++ status_text (is_proved answer))
-    ++ line (codes "  leaf 3:" ++ decimal column ++ codes " " ++ verdict_text names answer)
-    ++ line (count_text (is_proved answer))
+-- the line of its leaf, where its symbols have these names
+abbrev pub leaf_line : Theorem → List Bytes → Answer → Bytes
+leaf_line t names answer = line (codes "  leaf " ++ place_text t.leaf ++ codes " " ++ verdict_text names answer)
+
+-- the lines of a theorem
+abbrev pub theorem_lines : Theorem → List Bytes → Answer → Bytes
+theorem_lines t names answer = theorem_line t answer ++ leaf_line t names answer
+
+-- the last line
+abbrev pub count_line : ℕ → ℕ → Bytes
+count_line theorems proved = line (decimal theorems ++ codes " theorems, " ++ decimal proved ++ codes " proved")
+
+-- the name at a place, from 0, among these
+abbrev pub name_at : List Bytes → ℕ → Bytes
+name_at names place = slice_index_or names place []

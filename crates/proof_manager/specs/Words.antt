@@ -1,5 +1,5 @@
 -- The words of the command: the program's name and a module's name.
-use Rattle.std.specs.Prelude.{ℕ, Bool, true, false, Option, Some, None, List, [], ◌∷◌, codes}
+use Rattle.std.specs.Prelude.{ℕ, true, false, Option, Some, None, List, [], ◌∷◌, codes}
 use Rattle.core_expr.specs.Terms.{lists_equal}
 use Rattle.tla_ast.specs.Word.{is_identifier}
 

@@ -1,61 +1,71 @@
-ghost use Rattle.std.specs.Prelude.{◌≡◌, ◌<◌, ◌-◌, ◌++◌, ◌∷◌, [], false, length, map, take, slice_index_or, IfOk};
-ghost use Rattle.first_form.specs.Form.{IsLawful};
-ghost use Rattle.proof_manager.specs.Report.{is_proved};
-ghost use Rattle.proof_manager.specs.Run.{answer_of, report_of};
-ghost use Rattle.proof_manager.specs.Numbering.{different, ArePlaces};
-ghost use Rattle.proof_manager.specs.Statement.{answer_for, implication, numeral, turn_limit};
-ghost use Rattle.tableau_definition.specs.Search.{search};
+ghost use Rattle.std.specs.Prelude.{◌≡◌, ◌++◌, ◌≤◌, count_by, flat_map, length, IfOk, OnOk};
+ghost use Rattle.std.specs.List.{All};
+ghost use Rattle.propositional_module.specs.Laws.{IsWhole};
+ghost use Rattle.proof_manager.specs.Run.{all_hold, holds, lines_of, report_of};
 
-use crate::goal::implication_of;
-use crate::numbering::{Numbering, number};
-use crate::report::{is_proved, report};
-use core_expr::Memory;
-use first_form::FirstForm;
-use propositional_search::{Answer, Formulas, decide};
-use std::alloc::{AllocError, Global};
+use crate::report::{push_count, push_header, push_theorem};
+use core_expr::{Memory, Text};
+use propositional_answer::{answer_to, is_proved};
+use propositional_module::{PropositionalModule, Theorem};
+use std::alloc::Global;
 
-/// The limit of turns of a run.
-pub const TURN_LIMIT: u64 = 100000;
-
-/// A report that is ready to be written, and whether its theorem is proved.
+/// A report that is ready to be written, and whether every theorem is proved.
 #[derive(Drop)]
 pub struct Judged {
     pub report: Vec<u8>,
-    pub proved: bool,
+    pub all_proved: bool,
 }
 
-// Numbers the names of the theorem's formula, the conclusion's last.
-fn numbering_of(alloc: Global, form: &FirstForm) -> Result<Numbering, AllocError>
-    ensures order { IfOk result (λ n. n.order.keys ≡ different (form.now.hypotheses ++ form.now.conclusion ∷ [])) }
-    ensures places { IfOk result (λ n. ArePlaces n.order.keys (form.now.hypotheses ++ form.now.conclusion ∷ []) n.places.items) }
+// Answers a theorem, and appends its lines; whether it is proved.
+fn judge_theorem(
+    alloc: Global,
+    out: &mut Vec<u8>,
+    constants: &[Text],
+    theorem: &Theorem,
+) -> Result<bool, Memory>
+    requires { IsWhole theorem.now.goal }
+    ensures lines { OnOk result (out.new.items ≡ out.old.items ++ lines_of constants.now theorem.now) }
+    ensures proved { IfOk result (λ b. b ≡ holds theorem.now) }
 {
-    let mut occurrences = Vec::from_slice(alloc, form.hypotheses.as_slice())?;
-    occurrences.push(form.conclusion)?;
-    number(alloc, occurrences.as_slice())
+    let answered = answer_to(alloc, theorem.goal.as_slice())?;
+    push_theorem(out, constants, theorem, &answered)?;
+    Ok(is_proved(&answered.answer))
 }
 
-// The answer of the written search on the implication between canonical symbols, of which there are so many. The
-// conclusion's place stands behind the hypotheses'.
-fn answer_to(alloc: Global, places: &[u64], symbols: usize) -> Result<Answer, Memory>
-    requires { 0 < length places.now }
-    ensures { IfOk result (λ a. a ≡ answer_for symbols (search false symbols [] (implication (map numeral (take (length places.now - 1) places.now)) (numeral (slice_index_or places.now (length places.now - 1) 0))) turn_limit)) }
+// Answers the theorems in order, and appends their lines; how many are proved.
+fn judge_theorems(
+    alloc: Global,
+    out: &mut Vec<u8>,
+    constants: &[Text],
+    theorems: &[Theorem],
+) -> Result<usize, Memory>
+    requires { All (λ t. IsWhole t.goal) theorems.now }
+    ensures lines { OnOk result (out.new.items ≡ out.old.items ++ flat_map (lines_of constants.now) theorems.now) }
+    ensures count { IfOk result (λ n. n ≡ count_by holds theorems.now) }
+    ensures within { IfOk result (λ n. n ≤ length theorems.now) }
 {
-    let last = places.len() - 1;
-    let mut formulas = Formulas::new(alloc);
-    let goal = implication_of(&mut formulas, &places[..last], places[last])?;
-    decide(alloc, formulas, &[], goal, symbols, TURN_LIMIT)
+    let mut proved = 0;
+    for theorem in theorems {
+        proved += usize::from(judge_theorem(alloc, out, constants, theorem)?);
+    }
+    Ok(proved)
 }
 
-/// Answers the theorem of a text of the form, and makes the report.
-pub fn judge(alloc: Global, name: &[u8], form: &FirstForm) -> Result<Judged, Memory>
-    requires { IsLawful form.now }
-    ensures report { IfOk result (λ j. j.report.items ≡ report_of name.now form.now) }
-    ensures proved { IfOk result (λ j. j.proved ≡ is_proved (answer_of form.now)) }
+/// Answers the theorems of a module, and makes the report.
+#[tactic(auto, unfolding(crate::specs::Run::report_of))]
+pub fn judge(alloc: Global, name: &[u8], parsed: &PropositionalModule) -> Result<Judged, Memory>
+    requires { All (λ t. IsWhole t.goal) parsed.now.theorems }
+    ensures report { IfOk result (λ j. j.report.items ≡ report_of name.now parsed.now) }
+    ensures proved { IfOk result (λ j. j.all_proved ≡ all_hold parsed.now.theorems) }
 {
-    let numbering = numbering_of(alloc, form)?;
-    let order = numbering.order.as_slice();
-    let answer = answer_to(alloc, numbering.places.as_slice(), order.len())?;
-    let proved = is_proved(&answer);
-    let report = report(alloc, name, form, order, &answer)?;
-    Ok(Judged { report, proved })
+    let constants = parsed.constants.as_slice();
+    let theorems = parsed.theorems.as_slice();
+    let mut report = Vec::new(alloc);
+    push_header(&mut report, name)?;
+    let proved = judge_theorems(alloc, &mut report, constants, theorems)?;
+    push_count(&mut report, theorems.len(), proved)?;
+    Ok(Judged {
+        report,
+        all_proved: proved == theorems.len(),
+    })
 }

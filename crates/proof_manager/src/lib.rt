@@ -1,13 +1,11 @@
 //! The top call: from the words of the command and the module to the report.
 //!
-//! To the program this crate promises `run`, whose clauses are the product's claims for the one form of text that is
-//! read so far, and the number and the text of each status.
+//! To the program this crate promises `run`, whose clauses are the product's claims for modules of propositional theorems,
+//! and the number and the text of each status.
 #![tactic(auto)]
 
-mod goal;
 mod judge;
 mod load;
-mod numbering;
 mod report;
 mod status;
 mod top;

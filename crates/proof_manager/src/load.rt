@@ -1,45 +1,55 @@
 ghost use Rattle.std.specs.Prelude.{◌≡◌, IfOk};
-ghost use Rattle.first_form.specs.Form.{IsLawful};
+ghost use Rattle.std.specs.List.{All};
+ghost use Rattle.propositional_module.specs.Laws.{IsWhole};
 ghost use Rattle.proof_manager.specs.Causes.{Reads, Loads, LoadCause};
 
-use core_expr::Memory;
-use first_form::{FirstForm, read};
+use propositional_module::{
+    ModuleFault, PropositionalModule, front_decides, goals_are_whole, read,
+};
 use std::alloc::Global;
+use tla_ast::{Kind, Place};
 use tla_io::{Shelf, ShelfFault};
 
 /// Why there is no module to answer.
-#[derive(Clone, Copy, Debug, PartialEq, Eq)]
+#[derive(Debug, Drop)]
 pub enum LoadFault {
     /// The shelf has no such module.
     NotFound,
-    /// The module's text is not of the form.
-    NotOfForm,
+    /// The module's text has this as its first fault.
+    Refused { place: Place, kind: Kind },
     /// The shelf failed.
     ReadFault,
     /// Memory was not found.
     Memory,
 }
 
-/// More bytes than a text of the form has.
+/// More bytes than a module may have.
 const AT_MOST: u64 = 1048577;
 
 // Reads a module's text.
-fn read_text(alloc: Global, name: &str, text: &[u8]) -> Result<FirstForm, LoadFault>
-    ensures { Reads result name.now text.now }
+fn read_text(alloc: Global, name: &str, text: &[u8]) -> Result<PropositionalModule, LoadFault>
+    ensures text { Reads result name.now text.now }
+    ensures whole { IfOk result (λ m. All (λ t. IsWhole t.goal) m.theorems) }
 {
+    goals_are_whole();
     match read(alloc, text, name.as_bytes()) {
-        Ok(Some(form)) => Ok(form),
-        Ok(None) => Err(LoadFault::NotOfForm),
-        Err(Memory) => Err(LoadFault::Memory),
+        Ok(parsed) => Ok(parsed),
+        Err(ModuleFault::At { place, kind }) => Err(LoadFault::Refused { place, kind }),
+        Err(ModuleFault::Memory) => Err(LoadFault::Memory),
     }
 }
 
 /// Fetches a module and reads its text.
-pub fn load<S: Shelf>(alloc: Global, shelf: &mut S, name: &str) -> Result<FirstForm, LoadFault>
+pub fn load<S: Shelf>(
+    alloc: Global,
+    shelf: &mut S,
+    name: &str,
+) -> Result<PropositionalModule, LoadFault>
     ensures told { Loads result (S.folder shelf.old) name.now }
-    ensures lawful { IfOk result IsLawful }
+    ensures whole { IfOk result (λ m. All (λ t. IsWhole t.goal) m.theorems) }
     ensures cause { LoadCause result (S.count shelf.old) (S.count shelf.new) }
 {
+    front_decides();
     match shelf.fetch(alloc, name, AT_MOST) {
         Err(ShelfFault::Failed) => Err(LoadFault::ReadFault),
         Err(ShelfFault::Memory) => Err(LoadFault::Memory),

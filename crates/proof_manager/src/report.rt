@@ -1,20 +1,15 @@
-ghost use Rattle.std.specs.Prelude.{◌≡◌, ◌++◌, length, map, codes, decimal, IfOk, OnOk};
-ghost use Rattle.first_form.specs.Form.{name_at};
-ghost use Rattle.proof_manager.specs.Report.{HasValues, is_proved, line, status_text, count_text, valuation_text, verdict_text, report};
+ghost use Rattle.std.specs.Prelude.{◌≡◌, ◌++◌, length, map, codes, decimal, OnOk};
+ghost use Rattle.propositional_answer.specs.Answer.{HasValues, is_proved};
+ghost use Rattle.proof_manager.specs.Report.{name_at, line, place_text, name_text, status_text, valuation_text, verdict_text, theorem_line, leaf_line, theorem_lines, count_line};
 
 use crate::status::push_number;
 use crate::valuation::push_valuation;
 use core_expr::Text;
-use first_form::FirstForm;
+use propositional_answer::{Answered, is_proved};
+use propositional_module::Theorem;
 use propositional_search::Answer;
-use std::alloc::{AllocError, Global};
-
-/// Whether the answer is a proof.
-pub fn is_proved(answer: &Answer) -> bool
-    ensures { result ≡ is_proved answer.now }
-{
-    matches!(answer, Answer::Proved { .. })
-}
+use std::alloc::AllocError;
+use tla_ast::Place;
 
 // Appends a line that begins with the first text and goes on with the second.
 fn push_line(out: &mut Vec<u8>, first: &[u8], second: &[u8]) -> Result<(), AllocError>
@@ -23,6 +18,25 @@ fn push_line(out: &mut Vec<u8>, first: &[u8], second: &[u8]) -> Result<(), Alloc
     out.extend_from_slice(first)?;
     out.extend_from_slice(second)?;
     out.extend_from_slice(b"\n")
+}
+
+// Appends a place.
+fn push_place(out: &mut Vec<u8>, place: Place) -> Result<(), AllocError>
+    ensures { OnOk result (out.new.items ≡ out.old.items ++ place_text place) }
+{
+    push_number(out, place.line)?;
+    out.extend_from_slice(b":")?;
+    push_number(out, place.column)
+}
+
+// The name of a theorem; `-` where it has none.
+fn name_of(name: &Option<Text>) -> &[u8]
+    ensures { result.now ≡ name_text name.now }
+{
+    match name {
+        Some(name) => name.bytes(),
+        None => b"-",
+    }
 }
 
 // Appends a number of turns.
@@ -69,9 +83,13 @@ fn push_verdict(
     }
 }
 
-// Appends the line of the theorem.
-fn push_theorem(out: &mut Vec<u8>, theorem: &[u8], answer: &Answer) -> Result<(), AllocError>
-    ensures { OnOk result (out.new.items ≡ out.old.items ++ line (codes "theorem " ++ theorem.now ++ codes " 3:1 " ++ status_text (is_proved answer.now))) }
+// Appends the line of a theorem.
+fn push_theorem_line(
+    out: &mut Vec<u8>,
+    theorem: &Theorem,
+    answer: &Answer,
+) -> Result<(), AllocError>
+    ensures { OnOk result (out.new.items ≡ out.old.items ++ theorem_line theorem.now answer.now) }
 {
     let status: &[u8] = if is_proved(answer) {
         b"proved"
@@ -79,63 +97,56 @@ fn push_theorem(out: &mut Vec<u8>, theorem: &[u8], answer: &Answer) -> Result<()
         b"unproved"
     };
     out.extend_from_slice(b"theorem ")?;
-    out.extend_from_slice(theorem)?;
-    push_line(out, b" 3:1 ", status)
-}
-
-// Appends the line of the leaf.
-fn push_leaf(
-    out: &mut Vec<u8>,
-    form: &FirstForm,
-    places: &[u64],
-    answer: &Answer,
-) -> Result<(), AllocError>
-    requires { HasValues (length places.now) answer.now }
-    ensures { OnOk result (out.new.items ≡ out.old.items ++ line (codes "  leaf 3:" ++ decimal form.now.obvious_column ++ codes " " ++ verdict_text (map (name_at form.now.constants) places.now) answer.now)) }
-{
-    out.extend_from_slice(b"  leaf 3:")?;
-    push_number(out, form.obvious_column)?;
+    out.extend_from_slice(name_of(&theorem.name))?;
     out.extend_from_slice(b" ")?;
-    push_verdict(out, form.constants.as_slice(), places, answer)?;
+    push_place(out, theorem.place)?;
+    push_line(out, b" ", status)
+}
+
+// Appends the line of a leaf.
+fn push_leaf_line(
+    out: &mut Vec<u8>,
+    constants: &[Text],
+    theorem: &Theorem,
+    answered: &Answered,
+) -> Result<(), AllocError>
+    requires { HasValues (length answered.now.order.items) answered.now.answer }
+    ensures { OnOk result (out.new.items ≡ out.old.items ++ leaf_line theorem.now (map (name_at constants.now) answered.now.order.items) answered.now.answer) }
+{
+    out.extend_from_slice(b"  leaf ")?;
+    push_place(out, theorem.leaf)?;
+    out.extend_from_slice(b" ")?;
+    push_verdict(out, constants, answered.order.as_slice(), &answered.answer)?;
     out.extend_from_slice(b"\n")
 }
 
-// What the last line says.
-fn count_of(is_proved: bool) -> &'static [u8]
-    ensures { result.now ≡ count_text is_proved }
+/// Appends the lines of a theorem with this answer.
+pub fn push_theorem(
+    out: &mut Vec<u8>,
+    constants: &[Text],
+    theorem: &Theorem,
+    answered: &Answered,
+) -> Result<(), AllocError>
+    requires { HasValues (length answered.now.order.items) answered.now.answer }
+    ensures { OnOk result (out.new.items ≡ out.old.items ++ theorem_lines theorem.now (map (name_at constants.now) answered.now.order.items) answered.now.answer) }
 {
-    if is_proved {
-        b"1 theorems, 1 proved"
-    } else {
-        b"1 theorems, 0 proved"
-    }
+    push_theorem_line(out, theorem, &answered.answer)?;
+    push_leaf_line(out, constants, theorem, answered)
 }
 
-// Appends the last line.
-fn push_count(out: &mut Vec<u8>, answer: &Answer) -> Result<(), AllocError>
-    ensures { OnOk result (out.new.items ≡ out.old.items ++ line (count_text (is_proved answer.now))) }
+/// Appends the first line.
+pub fn push_header(out: &mut Vec<u8>, name: &[u8]) -> Result<(), AllocError>
+    ensures { OnOk result (out.new.items ≡ out.old.items ++ line (codes "module " ++ name.now)) }
 {
-    out.extend_from_slice(count_of(is_proved(answer)))?;
-    out.extend_from_slice(b"\n")
+    push_line(out, b"module ", name)
 }
 
-/// The report on the theorem of a text of the form: its leaf has this answer, and the constants at these places are the
-/// canonical symbols in order.
-#[tactic(auto, unfolding(crate::specs::Report::report))]
-pub fn report(
-    alloc: Global,
-    name: &[u8],
-    form: &FirstForm,
-    places: &[u64],
-    answer: &Answer,
-) -> Result<Vec<u8>, AllocError>
-    requires { HasValues (length places.now) answer.now }
-    ensures { IfOk result (λ v. v.items ≡ report name.now form.now.theorem form.now.obvious_column (map (name_at form.now.constants) places.now) answer.now) }
+/// Appends the last line.
+pub fn push_count(out: &mut Vec<u8>, theorems: usize, proved: usize) -> Result<(), AllocError>
+    ensures { OnOk result (out.new.items ≡ out.old.items ++ count_line theorems proved) }
 {
-    let mut out = Vec::new(alloc);
-    push_line(&mut out, b"module ", name)?;
-    push_theorem(&mut out, form.theorem.bytes(), answer)?;
-    push_leaf(&mut out, form, places, answer)?;
-    push_count(&mut out, answer)?;
-    Ok(out)
+    push_number(out, theorems as u64)?;
+    out.extend_from_slice(b" theorems, ")?;
+    push_number(out, proved as u64)?;
+    out.extend_from_slice(b" proved\n")
 }

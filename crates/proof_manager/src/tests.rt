@@ -45,63 +45,70 @@ fn shown(alloc: Global, case: &Case) -> Result<(u8, Vec<u8>, Text), Fail> {
 const IMPLIES_ITSELF: &[u8] =
     b"---- MODULE M ----\nCONSTANT A\nTHEOREM T == A => A OBVIOUS\n====\n";
 
-const OPEN: &[u8] =
-    b"---- MODULE M ----\nCONSTANTS A, B, C\nTHEOREM T == A /\\ B => C OBVIOUS\n====";
+// A proved theorem, one with a valuation and one without symbols: its name is none.
+const THREE: &[u8] =
+    b"---- MODULE M ----\nCONSTANTS A, B, C\nTHEOREM T == C => A \\/ C OBVIOUS\nTHEOREM U == C /\\ A => B OBVIOUS\n  THEOREM FALSE OBVIOUS\n====";
 
 #[test]
-fn an_implication_to_itself_is_proved(rt: HostRuntime) -> Result<(), Fail> {
-    let case = Case {
-        text: IMPLIES_ITSELF,
-        word: "M.tla",
-        shelf_fails: &[],
-        room: 200,
-    };
-    let (code, taken, text) = shown(rt.alloc(), &case)?;
-    let report: &[u8] =
-        b"module M\ntheorem T 3:1 proved\n  leaf 3:21 proved, 2 turns\n1 theorems, 1 proved\n";
-    assert_eq!(rt; code, 0);
-    assert_eq!(rt; taken.as_slice(), report);
-    assert_eq!(rt; text.bytes(), b"".as_slice());
-    Ok(())
-}
-
-#[test]
-fn an_open_implication_has_a_valuation(rt: HostRuntime) -> Result<(), Fail> {
-    let case = Case {
-        text: OPEN,
-        word: "M",
-        shelf_fails: &[],
-        room: 200,
-    };
-    let (code, taken, text) = shown(rt.alloc(), &case)?;
-    let report: &[u8] =
-        b"module M\ntheorem T 3:1 unproved\n  leaf 3:26 saturated, 2 turns: A = TRUE, B = TRUE, C = FALSE\n1 theorems, 0 proved\n";
-    assert_eq!(rt; code, 1);
-    assert_eq!(rt; taken.as_slice(), report);
-    assert_eq!(rt; text.bytes(), b"".as_slice());
+fn each_report_is_of_all_theorems(rt: HostRuntime) -> Result<(), Fail> {
+    let table: [(&[u8], u8, &[u8]); 4] = [
+        (
+            IMPLIES_ITSELF,
+            0,
+            b"module M\ntheorem T 3:1 proved\n  leaf 3:21 proved, 2 turns\n1 theorems, 1 proved\n",
+        ),
+        (
+            b"---- MODULE M ----\n====",
+            0,
+            b"module M\n0 theorems, 0 proved\n",
+        ),
+        (
+            b"---- MODULE M ----\nCONSTANTS A, B, C\nTHEOREM T == (A => B) /\\ (B => C) => (A => C) OBVIOUS\n====",
+            0,
+            b"module M\ntheorem T 3:1 proved\n  leaf 3:47 proved, 6 turns\n1 theorems, 1 proved\n",
+        ),
+        (
+            THREE,
+            1,
+            b"module M\ntheorem T 3:1 proved\n  leaf 3:26 proved, 3 turns\ntheorem U 4:1 unproved\n  leaf 4:26 saturated, 2 turns: C = TRUE, A = TRUE, B = FALSE\ntheorem - 5:3 unproved\n  leaf 5:17 saturated, 0 turns: \n3 theorems, 1 proved\n",
+        ),
+    ];
+    for (module, code, report) in &table {
+        let case = Case {
+            text: *module,
+            word: "M",
+            shelf_fails: &[],
+            room: 400,
+        };
+        let (got_code, taken, text) = shown(rt.alloc(), &case)?;
+        assert_eq!(rt; got_code, *code);
+        assert_eq!(rt; taken.as_slice(), *report);
+        assert_eq!(rt; text.bytes(), b"".as_slice());
+    }
     Ok(())
 }
 
 #[test]
 fn each_refusal_has_its_status_and_text(rt: HostRuntime) -> Result<(), Fail> {
-    let table: [(&[u8], &str, &[u64], u64, u8, &[u8], &[u8]); 7] = [
+    let table: [(&[u8], &str, &[u64], u64, u8, &[u8], &[u8]); 8] = [
+        (b"hello", "M", &[], 200, 3, b"", b"refused M 1:1 NoModule"),
         (
-            b"hello",
+            b"---- MODULE M ----\nCONSTANTS A, B\nTHEOREM A /\\ B => A OBVIOUS\nTHEOREM A = B OBVIOUS\n====",
             "M",
             &[],
             200,
             3,
             b"",
-            b"refused M 1:1 Unsupported form",
+            b"refused M 4:11 Unsupported form",
         ),
         (
-            b"",
+            b"---- MODULE M ----\nCONSTANTS A, B\nTHEOREM A => B => A OBVIOUS\n====",
             "M",
             &[],
             200,
             3,
             b"",
-            b"refused M 1:1 Unsupported form",
+            b"refused M 3:16 Precedence",
         ),
         (IMPLIES_ITSELF, "N", &[], 200, 4, b"", b"not found N"),
         (IMPLIES_ITSELF, "M", &[0], 200, 5, b"", b"read fault"),

@@ -1,6 +1,5 @@
 ghost use Rattle.std.specs.Prelude.{◌≡◌, ◌++◌, length, map, codes, OnOk};
-ghost use Rattle.proof_manager.specs.Report.{value_text, more_values, valuation_text};
-ghost use Rattle.first_form.specs.Form.{name_at};
+ghost use Rattle.proof_manager.specs.Report.{name_at, value_text, more_values, valuation_text};
 
 use core_expr::Text;
 use std::alloc::AllocError;

@@ -1,5 +1,5 @@
 -- What is known of a module that is read.
-use Rattle.std.proofs.Common.{◌≡◌, ℕ, zero, suc, List, [], ◌∷◌, length, map, fold, Option, Some, None, Result, Ok, Err, cond, Bool, true, false, nat_lt, refl, sym, ap, codes, subst, IfOk}
+use Rattle.std.proofs.Common.{◌≡◌, ℕ, zero, suc, List, [], ◌∷◌, length, map, fold, Option, Some, None, Result, Ok, Err, cond, Bool, true, false, nat_lt, refl, sym, ap, ◌∙◌, codes, subst, IfOk}
 use Rattle.std.specs.List.{position, position_or_len, flat_map, All}
 use Rattle.std.specs.Option.{option_map}
 use Rattle.std.specs.Str.{bytes_eq}
@@ -24,6 +24,7 @@ use Rattle.propositional_module.specs.Terms.Terms.{none, part}
 use Rattle.propositional_module.specs.Formulas.{atom, connective, meaning, times, written, signs, all_signs, outside, IsDeclared}
 use Rattle.propositional_module.specs.Statement.{formula, statement}
 use Rattle.propositional_module.specs.Module.{earlier, first_outside, theorem_of, constants_of, said, unless, checked, units_of, module_of}
+use Rattle.propositional_module.specs.Laws.{IsWhole}
 use Rattle.propositional_module.proofs.Readback.{no-front, reads-back}
 
 -- the steps that led to a module
@@ -161,6 +162,23 @@ are-formulas bytes name m e =
     let none = none-of (flat_map (λ t. outside s.constants (term_of t.goal)) s.read.theorems) s.none_outside in
     let all = statements s.constants s.read.theorems none in
     (s.read, s.is_read, subst (λ (n : PropositionalModule). map (λ t. statement t.goal) n.theorems ≡ map (λ t. formula n.constants (term_of t.goal)) s.read.theorems) (sym s.is_said) all)
+
+whole : (cs : List Text) (t : Term) → outside cs t ≡ [] → IsWhole (signs cs t)
+whole cs t e =
+    let read = reads-back cs t e in
+    read ∙ ap (λ f. f ∷ []) (sym (ap top read))
+
+wholes : (cs : List Text) (ts : List Stated) → flat_map (λ t. outside cs (term_of t.goal)) ts ≡ [] → All (λ (t : Theorem). IsWhole t.goal) (map (theorem_of cs) ts)
+wholes cs [] e = All-nil (λ (t : Theorem). IsWhole t.goal)
+wholes cs (t ∷ ts) e =
+    let s = no-front (outside cs (term_of t.goal)) (flat_map (λ t. outside cs (term_of t.goal)) ts) e in
+    All-cons (λ (t : Theorem). IsWhole t.goal) (theorem_of cs t) (map (theorem_of cs) ts) (whole cs (term_of t.goal) s.0) (wholes cs ts s.1)
+
+pub goals-whole : (bytes name : Text) (m : PropositionalModule) → module_of bytes name ≡ Ok m → All (λ (t : Theorem). IsWhole t.goal) m.theorems
+goals-whole bytes name m e =
+    let s = steps bytes name m e in
+    let none = none-of (flat_map (λ t. outside s.constants (term_of t.goal)) s.read.theorems) s.none_outside in
+    subst (λ (n : PropositionalModule). All (λ (t : Theorem). IsWhole t.goal) n.theorems) (sym s.is_said) (wholes s.constants s.read.theorems none)
 
 pub known-gives : (bytes name : Text) (r : Result PropositionalModule ModuleFault) → Gives r (module_of bytes name)
     → IfOk r (λ m. All (λ t. All (IsDeclared (length m.constants)) t.goal) m.theorems)

@@ -1,11 +1,15 @@
 -- From the tokens to what a text says.
-use Rattle.std.proofs.Common.{◌≡◌, true, false, List, [], map, flat_map, fold, Some, None, Result, Ok, Err, refl, sym, ap, subst}
+use Rattle.std.proofs.Common.{◌≡◌, ℕ, ◌<◌, ◌≤◌, ◌∙◌, Bool, true, false, nat_lt, length, take, arith, List, [], map, flat_map, fold, Some, None, Result, Ok, Err, refl, sym, ap, subst}
 use Rattle.std.specs.Result.{IsErrAnd}
 use Rattle.std.specs.Str.{bytes_eq}
 use Rattle.tla_ast.specs.declared.place.Place.{Place}
 use Rattle.tla_ast.specs.declared.token.Tokens.{Tokens}
 use Rattle.tla_ast.specs.declared.fault.LexFault.{LexFault}
 use Rattle.tla_ast.specs.declared.fault.LexFault.TheVariants as lexer
+use Rattle.std.proofs.lemmas.Bool.{ltb-true, ltb-false, lt-ltb}
+use Rattle.std.proofs.lemmas.List.{length-take-le, take_all}
+use Rattle.tla_ast.specs.declared.fault.Kind.TheVariants.{TooLong}
+use Rattle.tla_lexer.specs.Place.{first}
 use Rattle.tla_lexer.specs.Signs.{Text}
 use Rattle.tla_lexer.specs.Tokens.{tokens, Gives as LexerGives}
 use Rattle.propositional_module.specs.declared.fault.ModuleFault.{ModuleFault}
@@ -15,7 +19,7 @@ use Rattle.propositional_module.specs.Faults.{left_out, of_lexer, and_then, Give
 use Rattle.propositional_module.specs.Units.{units}
 use Rattle.propositional_module.specs.Terms.{term_of}
 use Rattle.propositional_module.specs.Formulas.{outside}
-use Rattle.propositional_module.specs.Module.{text_of, names_of, declare, constants_of, earlier, theorem_of, checked, units_of, module_of}
+use Rattle.propositional_module.specs.Module.{text_of, names_of, declare, constants_of, earlier, theorem_of, lexed, named_units, checked, units_of, module_of}
 
 -- ---- the units
 
@@ -62,3 +66,23 @@ pub by-units : (bytes name : Text) (ts : Tokens) (u : Units) → tokens bytes �
     → module_of bytes name ≡ checked u
 unfolding module_of units_of
 by-units bytes name ts u e g h = rw (e, g, h) refl
+
+-- ---- a front of the text
+
+too-long : (bytes : Text) → 1048576 < length bytes → tokens bytes ≡ Err (lexer.At first TooLong)
+unfolding tokens
+too-long bytes h = rw (lt-ltb 1048576 (length bytes) h) refl
+
+front-tokens : (most : ℕ) (bytes : Text) → 1048576 < most → tokens (take most bytes) ≡ tokens bytes
+front-tokens most bytes h = go (nat_lt most (length bytes)) refl
+  where
+    go : (b : Bool) → nat_lt most (length bytes) ≡ b → tokens (take most bytes) ≡ tokens bytes
+    go true e =
+        let over : most < length bytes = ltb-true most (length bytes) e in
+        let long : length (take most bytes) ≡ most = length-take-le most bytes (omega (arith, over)) in
+        too-long (take most bytes) (omega (arith, h, long)) ∙ sym (too-long bytes (omega (arith, h, over)))
+    go false e = ap tokens (take_all most bytes (ltb-false most (length bytes) e))
+
+pub front-module : (most : ℕ) (bytes name : Text) → 1048576 < most → module_of (take most bytes) name ≡ module_of bytes name
+unfolding module_of units_of
+front-module most bytes name h = ap (λ r. and_then (and_then (lexed r) (named_units name)) checked) (front-tokens most bytes h)

@@ -1,10 +1,12 @@
 -- What the definitions mean.
-use Rattle.std.specs.Prelude.{◌≡◌, false, List, [], ◌∷◌, map, Some, Ok}
+use Rattle.std.specs.Prelude.{◌≡◌, ℕ, ◌<◌, false, List, [], ◌∷◌, map, take, Some, Ok}
 use Rattle.std.specs.List.{All, Contains}
 use Rattle.tla_ast.specs.declared.place.Place.{Place}
 use Rattle.tla_ast.specs.Place.{before}
 use Rattle.tla_lexer.specs.Signs.{Text}
+use Rattle.propositional_module.specs.declared.sign.Sign.{Sign}
 use Rattle.propositional_module.specs.declared.theorem.PropositionalModule.{PropositionalModule}
+use Rattle.propositional_module.specs.declared.theorem.Theorem.{Theorem}
 use Rattle.propositional_module.specs.declared.unit.Units.{Units}
 use Rattle.propositional_module.specs.Terms.{Term, term_of}
 use Rattle.propositional_module.specs.Formulas.{signs, outside}
@@ -24,3 +26,15 @@ StatementsAreFormulas =
 -- The earliest of some places is one of them, and none of them stands before it.
 abbrev pub EarliestStandsFirst : Type 0
 EarliestStandsFirst = (ps : List Place) (p : Place) → earliest ps ≡ Some p → Contains ps p × All (λ q. before q p ≡ false) ps
+
+-- a front of more than 1048576 bytes is read as the whole
+abbrev pub FrontDecides : Type 0
+FrontDecides = (most : ℕ) (bytes name : Text) → 1048576 < most → module_of (take most bytes) name ≡ module_of bytes name
+
+-- the signs are those of one formula
+abbrev pub IsWhole : List Sign → Type 0
+IsWhole ss = stack_of ss ≡ statement ss ∷ []
+
+-- the signs of each theorem of a module that is read are those of one formula
+abbrev pub GoalsAreWhole : Type 0
+GoalsAreWhole = (bytes name : Text) (m : PropositionalModule) → module_of bytes name ≡ Ok m → All (λ (t : Theorem). IsWhole t.goal) m.theorems

@@ -19,7 +19,10 @@ mod theorem;
 mod unit;
 
 pub use fault::ModuleFault;
-pub use law::{earliest_stands_first, prefix_notation_reads_back, statements_are_formulas};
+pub use law::{
+    earliest_stands_first, front_decides, goals_are_whole, prefix_notation_reads_back,
+    statements_are_formulas,
+};
 pub use reader::read;
 pub use sign::Sign;
 pub use theorem::{PropositionalModule, Theorem};

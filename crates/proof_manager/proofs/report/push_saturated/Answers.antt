@@ -1,4 +1,3 @@
-use Rattle.std.proofs.Common.{◌≡◌}
 use Rattle.proof_manager.proofs.ValueLaws.{on_ok_along, three_pieces}
 use Rattle.proof_manager.proofs.report.push_saturated.Goals as goal
 

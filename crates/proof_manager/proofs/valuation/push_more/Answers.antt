@@ -1,5 +1,4 @@
-use Rattle.std.proofs.Common.{◌≡◌}
-use Rattle.first_form.specs.Form.{name_at}
+use Rattle.proof_manager.specs.Report.{name_at}
 use Rattle.proof_manager.proofs.ValueLaws.{more_step}
 use Rattle.proof_manager.proofs.valuation.push_more.Goals as goal
 

@@ -1,6 +1,5 @@
 use Rattle.std.proofs.Common.{◌≡◌, ◌++◌, take, map}
-use Rattle.first_form.specs.Form.{name_at}
-use Rattle.proof_manager.specs.Report.{more_values}
+use Rattle.proof_manager.specs.Report.{name_at, more_values}
 use Rattle.proof_manager.proofs.valuation.push_more.Given as goal
 
 abbrev pub invariant-loop-i : goal.invariant-loop-i

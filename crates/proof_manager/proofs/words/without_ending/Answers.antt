@@ -1,4 +1,4 @@
-use Rattle.std.proofs.Common.{◌≡◌, sym, ◌∙◌, ap}
+use Rattle.std.proofs.Common.{sym, ◌∙◌, ap}
 use Rattle.proof_manager.proofs.WordLaws.{ending_there, ending_absent}
 use Rattle.proof_manager.specs.Words.{without_ending}
 use Rattle.proof_manager.proofs.words.without_ending.Goals as goal

@@ -1,0 +1,5 @@
+pub mod Canonical
+pub mod Answer
+pub mod Numbering
+pub mod Goal
+pub mod Laws
