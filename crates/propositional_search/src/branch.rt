@@ -158,7 +158,7 @@ fn push_absent(entries: &mut Items<Entry>, formula: usize, present: bool) -> Res
     })
 }
 
-/// The formulas come to the end in order, where they are not there by the marks of the entries.
+/// The formulas come to the end in order, where the marks of the entries say that they are not there.
 fn push_all(entries: &mut Items<Entry>, stands: &[bool], added: Added) -> Result<(), AllocError>
     requires within { Within (length stands.now) added }
     requires stands { stands.now ≡ stands_in (length stands.now) entries.old }
