@@ -7,3 +7,4 @@ pub mod Whole
 pub mod Readback
 pub mod Said
 pub mod Earliest
+pub mod Stands

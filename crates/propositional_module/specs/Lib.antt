@@ -4,5 +4,7 @@ pub mod Terms
 pub mod Formulas
 pub mod Statement
 pub mod Module
+pub mod Grammar
+pub mod Example
 pub mod Kept
 pub mod Laws

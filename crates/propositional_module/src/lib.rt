@@ -21,7 +21,7 @@ mod unit;
 pub use fault::ModuleFault;
 pub use law::{
     earliest_stands_first, front_decides, goals_are_whole, prefix_notation_reads_back,
-    statements_are_formulas,
+    small_examples, statements_are_formulas, units_stand,
 };
 pub use reader::read;
 pub use sign::Sign;
