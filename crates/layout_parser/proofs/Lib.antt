@@ -1,3 +1,5 @@
 pub mod Turns
 pub mod ChainLaws
 pub mod Rows
+pub mod Steps
+pub mod Readers
