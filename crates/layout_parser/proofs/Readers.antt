@@ -1,5 +1,6 @@
 -- What each rule has used.
-use Rattle.std.proofs.Common.{◌≡◌, ℕ, zero, suc, ◌≤◌, Bool, true, false, if◌then◌else◌, List, [], ◌∷◌, ◌++◌, length, Ok, Err, refl, sym, ap, subst, ◌∙◌, append_assoc}
+use Rattle.std.proofs.Common.{◌≡◌, ℕ, zero, suc, ◌≤◌, Bool, true, false, if◌then◌else◌, List, [], ◌∷◌, ◌++◌, length, Ok, Err, refl, sym, ap, subst, ◌∙◌, append_assoc, arith, nat_eq, ◌&&◌, not}
+use Rattle.std.proofs.lemmas.Bool.{and_parts, eqb-true}
 use Rattle.tla_ast.specs.declared.place.Place.{Place}
 use Rattle.tla_ast.specs.declared.tree.Node.{Node}
 use Rattle.tla_ast.specs.declared.tree.Form.TheVariants as form
@@ -11,12 +12,16 @@ use Rattle.layout_parser.specs.declared.setting.Around.TheVariants as around
 use Rattle.layout_parser.specs.declared.setting.Setting.{Setting}
 use Rattle.layout_parser.specs.declared.setting.Stop.TheVariants as stop
 use Rattle.layout_parser.specs.Marks.{Text, spelling}
-use Rattle.layout_parser.specs.Input.{Tokens, Outcome, first, next, here, sees, within, with_at, after}
+use Rattle.layout_parser.specs.Input.{Tokens, Outcome, first, next, here, sees, ◌>>=◌, within, is_tuple, with_at, after}
 use Rattle.layout_parser.specs.Reading as rule
 use Rattle.layout_parser.specs.Reading.{ChainReader, part}
 use Rattle.layout_parser.specs.Spelling as spell
-use Rattle.layout_parser.specs.Spelling.{Symbols, sign, sign_at, expression, same, between, word}
-use Rattle.layout_parser.proofs.Steps.{got, eaten, by-test, by-reader, same-end, Read, Stands, stands, nothing, both, up-to, on-sign, on-sign-at, on-word, on-declared, on-name, opened, on-eat, on-no, Good, ChainRead, on-finished, le, Derives, derived, Subscribes, subscribed, on-subscript}
+use Rattle.layout_parser.specs.Spelling.{Symbols, sign, sign_at, expression, same, between, word, Operand, Subscript}
+use Rattle.layout_parser.proofs.Steps.{got, refused, derived-as, subscribed-as, eaten, begun, by-test, by-reader, same-end, Read, Stands, stands, nothing, both, up-to, on-sign, on-sign-at, on-word, on-declared, on-name, on-eat, on-no, Good, ChainRead, on-finished, le, Derives, derived, Subscribes, subscribed, on-subscript}
+
+single : (x : Node) (xs : List Node) → nat_eq (length (x ∷ xs)) 1 ≡ true → xs ≡ []
+single x [] e = refl
+single x (y ∷ ys) e = let two : length (x ∷ y ∷ ys) ≡ 1 = eqb-true _ 1 e in absurd (omega (arith, two))
 
 module _ (left : ℕ) (inner : ChainReader) (law : OneRightTree) (good : Good inner) where
   -- an expression in a further nesting
@@ -40,7 +45,7 @@ module _ (left : ℕ) (inner : ChainReader) (law : OneRightTree) (good : Good in
 
   expressions-from : (n : ℕ) (s : Setting) (found : List Node) (ts : Tokens) (xs : List Node) (rest : Tokens) → rule.expressions_from left inner n s found ts ≡ Ok (xs, rest) → Listed s found xs ts rest
   unfolding rule.expressions_from
-  expressions-from zero s found ts xs rest e = absurd (cc)
+  expressions-from zero s found ts xs rest e = refused e
   expressions-from (suc n) s found ts xs rest e = got e (λ x mid e1 e2. by-reader _ _ e2
       (λ comma e3. let h = expressions-from n s (found ++ x ∷ []) _ xs rest e3 in record { head = x; tail = h.head ∷ h.tail; are = h.are ∙ append_assoc found (x ∷ []) (h.head ∷ h.tail); read = on-same s e1 (on-eat s refl comma h.read) })
       (λ none e3. let h = same-end _ _ _ _ e3 in record { head = x; tail = []; are = sym h.0; read = on-same s e1 (on-no s _ none (up-to h.1 nothing)) }))
@@ -50,6 +55,90 @@ module _ (left : ℕ) (inner : ChainReader) (law : OneRightTree) (good : Good in
   expressions s found ts xs rest e = expressions-from (length ts) s found ts xs rest e
 
   -- ---- names, parentheses, angle brackets
+
+  record Arguments (s : Setting) (xs : List Node) (ts rest : Tokens) : Type 0 where
+    pub head : Node
+    pub tail : List Node
+    pub are : xs ≡ head ∷ tail
+    pub read : Read s.region s.has_at ts rest (sign m.OpenParen ∷ (spell.expressions s.region s.has_at head tail ++ sign m.CloseParen ∷ []))
+
+  arguments : (s : Setting) (ts : Tokens) (xs : List Node) (rest : Tokens) → Stands s.region m.OpenParen ts → rule.arguments left inner s ts ≡ Ok (xs, rest) → Arguments s xs ts rest
+  unfolding rule.arguments
+  arguments s ts xs rest at e = begun left _ _ e (λ f0. got f0 (λ ys mid e1 f1. let h = expressions (within around.Other s) [] (next ts) ys mid e1 in
+      eaten (within around.Other s) stop.Expression m.CloseParen _ refl f1 (λ close f2. let z = same-end _ _ _ _ f2 in
+      record { head = h.head; tail = h.tail; are = sym z.0 ∙ h.are; read = on-sign at (both h.read (on-sign close (up-to z.1 nothing))) })))
+
+  named : (s : Setting) (ts rest : Tokens) (n : Node) → Stands s.region m.Name ts → rule.named left inner s ts ≡ Ok (n, rest) → Derives s.region s.has_at ts rest n
+  unfolding rule.named
+  named s ts rest n at e = by-test e
+      (λ paren e1. got e1 (λ xs mid e2 f2. let h = arguments s (next ts) xs mid (stands s m.OpenParen (next ts) refl paren) e2 in
+          derived-as f2 (ap (λ l. rule.node (form.Call (spelling (first ts).tok)) l (here ts)) h.are) (spell.call (spelling (first ts).tok) h.head h.tail (here ts)) (on-word at h.read)))
+      (λ _ e1. derived e1 (spell.plain _ _ (spell.identifier _ _)) (on-word at nothing))
+
+  parentheses : (s : Setting) (ts rest : Tokens) (n : Node) → Stands s.region m.OpenParen ts → rule.parenthesized left inner s ts ≡ Ok (n, rest)
+      → Read s.region s.has_at ts rest (sign m.OpenParen ∷ same s.region s.has_at n ∷ sign m.CloseParen ∷ [])
+  unfolding rule.parenthesized
+  parentheses s ts rest n at e = begun left _ _ e (λ f0. got f0 (λ x mid e1 f1. eaten (within around.Other s) stop.Expression m.CloseParen _ refl f1 (λ close f2. let z = same-end _ _ _ _ f2 in
+      subst (λ y. Read s.region s.has_at ts rest (sign m.OpenParen ∷ same s.region s.has_at y ∷ sign m.CloseParen ∷ [])) z.0 (on-sign at (on-same (within around.Other s) e1 (on-sign close (up-to z.1 nothing)))))))
+
+  tuple : (s : Setting) (ts rest : Tokens) (n : Node) → Stands s.region m.OpenAngle ts → rule.tuple left inner s ts ≡ Ok (n, rest) → Subscribes s.region s.has_at ts rest n
+  unfolding rule.tuple
+  tuple s ts rest n at e = begun left _ _ e (λ f0. by-reader _ _ f0
+      (λ close f1. subscribed f1 (spell.empty_tuple _) (on-sign-at at (on-eat (within around.Other s) refl close nothing)))
+      (λ some f1. got f1 (λ xs mid e1 f2. let h = expressions (within around.Other s) [] _ xs mid e1 in
+          eaten (within around.Other s) stop.Expression m.CloseAngle _ refl f2 (λ close f3.
+          subscribed-as f3 (ap (λ l. rule.node form.Tuple l (here ts)) h.are) (spell.tuple h.head h.tail (here ts))
+              (on-sign-at at (on-no (within around.Other s) _ some (both h.read (on-sign close nothing))))))))
+
+  subscript : (s : Setting) (ts rest : Tokens) (n : Node) → rule.subscript left inner s ts ≡ Ok (n, rest) → Subscribes s.region s.has_at ts rest n
+  unfolding rule.subscript
+  subscript s ts rest n e = by-test e
+      (λ seen e1. subscribed e1 (spell.identifier _ _) (on-word (stands s m.Name ts refl seen) nothing))
+      (λ _ e1. by-test e1 (λ seen e2. tuple s ts rest n (stands s m.OpenAngle ts refl seen) e2)
+      (λ _ e2. by-test e2 (λ seen e3. record { parts = _; made = spell.parentheses n; read = parentheses s ts rest n (stands s m.OpenParen ts refl seen) e3 })
+      (λ _ e3. refused e3)))
+
+  angle-end : (s : Setting) (ts mid rest : Tokens) (n x : Node) (xs : List Node) → Stands s.region m.OpenAngle ts → Read s.region s.has_at (next ts) mid (spell.expressions s.region s.has_at x xs)
+      → rule.angle_end left inner s (here ts) (x ∷ xs) mid ≡ Ok (n, rest) → Derives s.region s.has_at ts rest n
+  unfolding rule.angle_end
+  angle-end s ts mid rest n x xs at r e = by-test e
+      (λ close e1. derived e1 (spell.plain _ _ (spell.tuple x xs (here ts))) (on-sign-at at (both r (on-sign (stands s m.CloseAngle mid refl close) nothing))))
+      (λ _ e1. by-test {b = sees s m.CloseAction mid && nat_eq (length (x ∷ xs)) 1} e1 (λ act e2. got e2 (λ v t3 e3 f3. let h = subscript s (next mid) t3 v e3 in let none : xs ≡ [] = single x xs (and_parts _ _ act).1 in
+          derived-as f3 (ap (λ l. rule.node form.AngleAct ((x ∷ l) ++ v ∷ []) (here ts)) none) (spell.angle_action x v h.parts (here ts) h.made)
+              (on-sign-at at (both (subst (λ l. Read s.region s.has_at (next ts) mid (spell.expressions s.region s.has_at x l)) none r) (on-sign (stands s m.CloseAction mid refl (and_parts _ _ act).0) h.read)))))
+      (λ _ e2. refused e2))
+
+  angle : (s : Setting) (ts rest : Tokens) (n : Node) → Stands s.region m.OpenAngle ts → rule.angle left inner s ts ≡ Ok (n, rest) → Derives s.region s.has_at ts rest n
+  unfolding rule.angle
+  angle s ts rest n at e = begun left _ _ e (λ f0. by-reader _ _ f0
+      (λ close f1. derived f1 (spell.plain _ _ (spell.empty_tuple _)) (on-sign-at at (on-eat (within around.Other s) refl close nothing)))
+      (λ some f1. got f1 (λ xs mid e1 f2. let h = expressions (within around.Other s) [] _ xs mid e1 in
+          angle-end s ts mid rest n h.head h.tail at (on-no (within around.Other s) _ some h.read) (subst (λ l. rule.angle_end left inner s (here ts) l mid ≡ Ok (n, rest)) h.are f2))))
+
+  fair : (strong : Bool) (s : Setting) (ts rest : Tokens) (n : Node) → Stands s.region (spell.fair_mark strong) ts → rule.fair left inner strong s ts ≡ Ok (n, rest) → Derives s.region s.has_at ts rest n
+  unfolding rule.fair
+  fair strong s ts rest n at e = got e (λ v mid e1 f1. let h = subscript s (next ts) mid v e1 in by-test f1
+      (λ paren f2. got f2 (λ a t3 e3 f3. derived f3 (spell.fair strong v a h.parts (here ts) h.made) (on-sign-at at (both h.read (parentheses s mid t3 a (stands s m.OpenParen mid refl paren) e3)))))
+      (λ _ f2. refused f2))
+
+  -- ---- braces
+
+  brace-end : (s : Setting) (ts mid rest : Tokens) (n x : Node) → Stands s.region m.OpenBrace ts → Read s.region s.has_at (next ts) mid (same s.region s.has_at x ∷ [])
+      → rule.brace_end left inner s (here ts) x mid ≡ Ok (n, rest) → Derives s.region s.has_at ts rest n
+  unfolding rule.brace_end rule.image rule.elements
+  brace-end s ts mid rest n x at r e = by-test {b = sees s m.Colon mid && not (is_tuple s.around)} e
+      (λ colon e1. got e1 (λ d t2 e2 f2. eaten (within around.Colon s) stop.Other m.Belongs _ refl f2 (λ belongs f3. got f3 (λ set t4 e4 f4.
+          eaten (within around.Colon s) stop.Expression m.CloseBrace _ refl f4 (λ close f5.
+          derived f5 (spell.image d set x) (on-sign at (both r (on-sign (stands s m.Colon mid refl (and_parts _ _ colon).0)
+              (on-declared (within around.Colon s) stop.Bound e2 (on-sign belongs (on-same (within around.Colon s) e4 (on-sign close nothing))))))))))))
+      (λ _ e1. by-test e1
+      (λ comma e2. got e2 (λ xs t3 e3 f3. let h = expressions s (x ∷ []) (next mid) xs t3 e3 in eaten s stop.Expression m.CloseBrace _ refl f3 (λ close f4.
+          derived-as f4 (ap (λ l. rule.node form.Enum l (here ts)) h.are) (spell.enumeration x (h.head ∷ h.tail) (here ts))
+              (on-sign-at at (both r (on-sign (stands s m.Comma mid refl comma) (both h.read (on-sign close nothing))))))))
+      (λ _ e2. by-test e2 (λ close e3. derived e3 (spell.enumeration x [] (here ts)) (on-sign-at at (both r (on-sign (stands s m.CloseBrace mid refl close) nothing))))
+      (λ _ e3. refused e3)))
+
+  -- ---- IF
 
   conditional : (s : Setting) (ts rest : Tokens) (n : Node) → Stands s.region m.If ts → rule.conditional left inner s ts ≡ Ok (n, rest) → Derives s.region s.has_at ts rest n
   unfolding rule.conditional

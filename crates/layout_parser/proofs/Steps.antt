@@ -17,7 +17,7 @@ use Rattle.layout_parser.specs.declared.mark.Mark.TheVariants as m
 use Rattle.layout_parser.specs.declared.setting.Setting.{Setting}
 use Rattle.layout_parser.specs.declared.setting.Stop.{Stop}
 use Rattle.layout_parser.specs.Marks.{Text, mark_of, spelling, same_mark}
-use Rattle.layout_parser.specs.Input.{Tokens, Outcome, Reader, and_then, ◌>>◌, first, next, here, mark, is_inside, sees, expect, name, declared, refusal, opening, eat, after}
+use Rattle.layout_parser.specs.Input.{Tokens, Outcome, Reader, and_then, ◌>>=◌, ◌>>◌, first, next, here, mark, is_inside, sees, expect, name, declared, refusal, opening, eat, after}
 use Rattle.std_names.specs.declared.operators.Fix.{Fix}
 use Rattle.std_names.specs.declared.operators.Fix.TheVariants.{Prefix, Infix, Postfix}
 use Rattle.std_names.specs.Operators.{operator, prefix_rows, infix_rows, postfix_rows}
@@ -37,6 +37,10 @@ pub got : {A B : Type 0} {o : Outcome A} {f : A → Reader B} {b : B} {rest : To
     → ((a : A) (mid : Tokens) → o ≡ Ok (a, mid) → f a mid ≡ Ok (b, rest) → X) → X
 got {o = Ok p} e k = k p.0 p.1 refl e
 got {o = Err x} e k = absurd (cc)
+
+-- no outcome is a fault and a result
+pub refused : {A : Type 0} {f : SynFault} {a : A} {rest : Tokens} {X : Type 0} → (let x : Outcome A = Err f in x) ≡ Ok (a, rest) → X
+refused e = absurd (cc)
 
 -- what an outcome is
 pub same-end : {A : Type 0} (a b : A) (ts us : Tokens) → (let x : Outcome A = Ok (a, ts) in x) ≡ Ok (b, us) → (a ≡ b) × (ts ≡ us)
@@ -153,11 +157,11 @@ unfolding name
 on-name s before {ts = ts} {rest = rest} {has_at = has_at} {ys = ys} e r = let h = is-next _ e in let at : Stands s.region m.Name ts = stands s m.Name ts refl h.0 in
     on-token at.may (at.marked, h.1) at.some (subst (λ l. Read s.region has_at l rest ys) (sym h.2) r)
 
--- what begins a bracket is read
-pub opened : (left : ℕ) (ts : Tokens) {place : Place} {mid : Tokens} → opening left ts ≡ Ok (place, mid) → (here ts ≡ place) × (next ts ≡ mid)
+-- what begins a bracket has been read
+pub begun : (left : ℕ) {B : Type 0} (ts : Tokens) (f : Place → Reader B) {b : B} {rest : Tokens} {X : Type 0} → (opening left >>= f) ts ≡ Ok (b, rest) → (f (here ts) (next ts) ≡ Ok (b, rest) → X) → X
 unfolding opening
-opened zero ts e = absurd (cc)
-opened (suc n) ts {place = place} {mid = mid} e = same-end (here ts) place (next ts) mid e
+begun zero ts f e go = absurd (cc)
+begun (suc n) ts f e go = go e
 
 -- ---- operators
 
@@ -261,6 +265,11 @@ pub derived : {region : ℕ} {has_at : Bool} {ts mid rest : Tokens} {a n : Node}
 derived {region = region} {has_at = has_at} {ts = ts} {mid = mid} {rest = rest} {a = a} {n = n} {parts = parts} e made r = let h = same-end a n mid rest e in
     record { parts = parts; made = subst (λ x. Operand region has_at x parts) h.0 made; read = up-to h.1 r }
 
+-- the same, where the node is another one's equal
+pub derived-as : {region : ℕ} {has_at : Bool} {ts mid rest : Tokens} {a b n : Node} {parts : Symbols} → (let x : Outcome Node = Ok (a, mid) in x) ≡ Ok (n, rest) → a ≡ b → Operand region has_at b parts
+    → Read region has_at ts mid parts → Derives region has_at ts rest n
+derived-as {region = region} {has_at = has_at} {parts = parts} e same made r = derived e (subst (λ x. Operand region has_at x parts) (sym same) made) r
+
 -- a subscript has been read
 pub record Subscribes (region : ℕ) (has_at : Bool) (ts rest : Tokens) (n : Node) : Type 0 where
   pub parts : Symbols
@@ -272,5 +281,13 @@ pub subscribed : {region : ℕ} {has_at : Bool} {ts mid rest : Tokens} {a n : No
 subscribed {region = region} {has_at = has_at} {ts = ts} {mid = mid} {rest = rest} {a = a} {n = n} {parts = parts} e made r = let h = same-end a n mid rest e in
     record { parts = parts; made = subst (λ x. Subscript region has_at x parts) h.0 made; read = up-to h.1 r }
 
+pub subscribed-as : {region : ℕ} {has_at : Bool} {ts mid rest : Tokens} {a b n : Node} {parts : Symbols} → (let x : Outcome Node = Ok (a, mid) in x) ≡ Ok (n, rest) → a ≡ b → Subscript region has_at b parts
+    → Read region has_at ts mid parts → Subscribes region has_at ts rest n
+subscribed-as {region = region} {has_at = has_at} {parts = parts} e same made r = subscribed e (subst (λ x. Subscript region has_at x parts) (sym same) made) r
+
 pub on-subscript : {region : ℕ} {has_at : Bool} {ts mid rest : Tokens} {n : Node} {ys : Symbols} → (h : Subscribes region has_at ts mid n) → Read region has_at mid rest ys → Read region has_at ts rest (h.parts ++ ys)
 on-subscript h r = both h.read r
+
+pub on-operand : {region : ℕ} {has_at : Bool} {ts mid rest : Tokens} {n : Node} {parts ys : Symbols} → Operand region has_at n parts → Read region has_at ts mid parts → Read region has_at mid rest ys
+    → Read region has_at ts rest (operand n ∷ ys)
+on-operand {rest = rest} made p q = record { used = p.used ++ q.used; is = p.is ∙ ap (λ l. p.used ++ l) q.is ∙ sym (append_assoc p.used q.used rest); spelled = of_operand made p.spelled q.spelled }
