@@ -101,7 +101,7 @@ operator-listed s fix ts o e = by-test (is_inside s ts) e
 
 pub index-listed : (a : Node) (place : Place) → IsListed (index_at a place)
 unfolding operator postfix_rows
-pub index-listed a place = refl
+index-listed a place = refl
 
 field-listed : (h : Text) (place : Place) → IsListed (field_at h place)
 unfolding operator postfix_rows
@@ -149,8 +149,8 @@ module _ (left : ℕ) (inner : ChainReader) where
 
   pub good-step : (s : Setting) (waits : Bool) (ts : Tokens) → IsGood waits (step left inner s waits ts).0
   unfolding step_before step_after
-  pub good-step s true ts = good-before s (operator_in s Prefix ts) ts refl
-  pub good-step s false ts = good-after s (operator_in s Infix ts) ts refl
+  good-step s true ts = good-before s (operator_in s Prefix ts) ts refl
+  good-step s false ts = good-after s (operator_in s Infix ts) ts refl
 
   front-nil : (waits : Bool) → IsChain waits []
   front-nil true = tt

@@ -1,5 +1,6 @@
 pub mod Turns
 pub mod ChainLaws
 pub mod Rows
+pub mod Belongs
 pub mod Steps
 pub mod Readers

@@ -2,9 +2,11 @@
 use Rattle.std.proofs.Common.{◌≡◌, ℕ, zero, suc, ◌≤◌, Bool, true, false, if◌then◌else◌, List, [], ◌∷◌, ◌++◌, length, Ok, Err, refl, sym, ap, subst, ◌∙◌, append_assoc, arith, nat_eq, ◌&&◌, not}
 use Rattle.std.proofs.lemmas.Bool.{and_parts, eqb-true}
 use Rattle.tla_ast.specs.declared.place.Place.{Place}
-use Rattle.tla_ast.specs.declared.tree.Node.{Node}
+use Rattle.tla_ast.specs.declared.tree.Node.{Node, out-Node}
 use Rattle.tla_ast.specs.declared.tree.Form.TheVariants as form
 use Rattle.operator_chain.specs.Chain.{OneRightTree}
+use Rattle.operator_chain.specs.declared.chain.Piece.{Piece}
+use Rattle.operator_chain.specs.declared.chain.Piece.TheVariants as piece
 use Rattle.layout_parser.specs.declared.mark.Mark.{Mark}
 use Rattle.layout_parser.specs.declared.mark.Mark.TheVariants as m
 use Rattle.layout_parser.specs.declared.setting.Around.{Around}
@@ -12,12 +14,14 @@ use Rattle.layout_parser.specs.declared.setting.Around.TheVariants as around
 use Rattle.layout_parser.specs.declared.setting.Setting.{Setting}
 use Rattle.layout_parser.specs.declared.setting.Stop.TheVariants as stop
 use Rattle.layout_parser.specs.Marks.{Text, spelling}
-use Rattle.layout_parser.specs.Input.{Tokens, Outcome, first, next, here, sees, ◌>>=◌, within, is_tuple, with_at, after}
+use Rattle.layout_parser.specs.Input.{Tokens, Outcome, first, next, here, sees, sees_second, and_then, ◌>>=◌, within, is_tuple, with_at, after}
 use Rattle.layout_parser.specs.Reading as rule
-use Rattle.layout_parser.specs.Reading.{ChainReader, part}
+use Rattle.layout_parser.specs.Reading.{Chain, ChainReader, part, behind, after_member, member_at, is_whole, is_tuple_form}
 use Rattle.layout_parser.specs.Spelling as spell
 use Rattle.layout_parser.specs.Spelling.{Symbols, sign, sign_at, expression, same, between, word, Operand, Subscript}
-use Rattle.layout_parser.proofs.Steps.{got, refused, derived-as, subscribed-as, eaten, begun, by-test, by-reader, same-end, Read, Stands, stands, nothing, both, up-to, on-sign, on-sign-at, on-word, on-declared, on-name, on-eat, on-no, Good, ChainRead, on-finished, le, Derives, derived, Subscribes, subscribed, on-subscript}
+use Rattle.layout_parser.proofs.ChainLaws.{member-listed}
+use Rattle.layout_parser.proofs.Belongs.{member-fits}
+use Rattle.layout_parser.proofs.Steps.{on-token, on-operand, finish, got, refused, derived-as, subscribed-as, eaten, begun, by-test, by-reader, same-end, Read, Stands, stands, nothing, both, up-to, on-sign, on-sign-at, on-word, on-declared, on-name, on-eat, on-no, Good, ChainRead, on-finished, le, Derives, derived, Subscribes, subscribed, on-subscript}
 
 single : (x : Node) (xs : List Node) → nat_eq (length (x ∷ xs)) 1 ≡ true → xs ≡ []
 single x [] e = refl
@@ -144,3 +148,79 @@ module _ (left : ℕ) (inner : ChainReader) (law : OneRightTree) (good : Good in
   unfolding rule.conditional
   conditional s ts rest n at e = got e (λ test t1 e1 f1. eaten s stop.Expression m.Then _ refl f1 (λ a2 f2. got f2 (λ yes-part t3 e3 f3. eaten s stop.Expression m.Else _ refl f3 (λ a4 f4. got f4 (λ no-part t5 e5 f5.
       derived f5 (spell.conditional test yes-part no-part (here ts)) (on-sign-at at (on-same s e1 (on-sign a2 (on-same s e3 (on-sign a4 (on-same s e5 nothing)))))))))))
+
+  -- ---- `x \in S` at the beginning of a bracket
+
+  with-member : (s : Setting) (ts us : Tokens) (xs : List Piece) → Stands s.region m.Name ts → Stands s.region m.Belongs (next ts) → ChainRead s true (next (next ts)) us xs
+      → ChainRead s true ts us (piece.Operand (rule.node (form.Name (spelling (first ts).tok)) [] (here ts)) ∷ member_at (here (next ts)) ∷ xs)
+  with-member s ts us xs at sign-at h = record {
+      whole = h.whole;
+      listed = (tt, (member-listed (here (next ts)), h.listed));
+      read = on-operand (spell.plain _ _ (spell.identifier _ _)) (on-word at nothing) (on-token sign-at.may (member-fits (first (next ts)) sign-at.marked) sign-at.some h.read)
+    }
+
+  -- the chain of the set, and that of the expression that begins with the name
+  set-chain : (s : Setting) (ts : Tokens) → Chain
+  set-chain s ts = inner (length (next (next ts))) s true (next (next ts))
+
+  member-chain : (s : Setting) (ts : Tokens) → Stands s.region m.Name ts → Stands s.region m.Belongs (next ts) → (xs : List Piece) (us : Tokens)
+      → after_member (spelling (first ts).tok) (here ts) (here (next ts)) (set-chain s ts) ≡ (xs, Ok us) → ChainRead s true ts us xs
+  unfolding set-chain
+  member-chain s ts at sign-at xs us is = let c = set-chain s ts in
+      subst (λ l. ChainRead s true ts us l) (ap (λ p. p.0) is)
+          (with-member s ts us c.0 at sign-at (good (length (next (next ts))) s true (next (next ts)) us c.0 (λ i. (c.0, (ap (λ p. p.1) is) i))))
+
+  whole-sees : (s : Setting) (k : Mark) (c : Chain) (xs : List Piece) (us : Tokens) → c ≡ (xs, Ok us) → is_whole s k c ≡ true → sees s k us ≡ true
+  whole-sees s k c xs us is w = (and_parts (sees s k us) _ (subst (λ d. is_whole s k d ≡ true) is w)).0
+
+  member-brace : (s : Setting) (ts rest : Tokens) (n : Node) → Stands s.region m.OpenBrace ts → Stands s.region m.Name (next ts) → Stands s.region m.Belongs (next (next ts))
+      → rule.member_brace left inner s (here ts) (next ts) ≡ Ok (n, rest) → Derives s.region s.has_at ts rest n
+  unfolding rule.member_brace rule.filter set-chain
+  member-brace s ts rest n at name-at sign-at e = let c = set-chain s (next ts) in by-test {b = is_whole s m.Colon c} e
+      (λ whole e1. got e1 (λ set mid e2 f2. got f2 (λ condition t3 e3 f3. eaten (within around.Colon s) stop.Expression m.CloseBrace _ refl f3 (λ close f4.
+          derived f4 (spell.filter (spelling (first (next ts)).tok) set condition (here (next ts)))
+              (on-sign at (on-word name-at (on-sign sign-at (on-finished law s c (le s.region) e2 (λ xs us is. good _ s true _ us xs is)
+                  (on-sign (stands s m.Colon mid refl (whole-sees s m.Colon c c.0 mid (finish c set mid e2).chain whole)) (on-same (within around.Colon s) e3 (on-sign close nothing)))))))))))
+      (λ _ e1. got e1 (λ x mid e2 f2. brace-end s ts mid rest n x at (on-finished law s _ (le s.region) e2 (member-chain s (next ts) name-at sign-at) nothing) f2))
+
+  tuple-in : (s : Setting) (ts mid rest : Tokens) (n a : Node) → Stands s.region m.OpenBrace ts → Read s.region s.has_at (next ts) mid (spell.operand a ∷ [])
+      → and_then (rule.finished (behind (piece.Operand a ∷ []) (inner (length mid) s false mid))) (rule.brace_end left inner s (here ts)) ≡ Ok (n, rest) → Derives s.region s.has_at ts rest n
+  tuple-in s ts mid rest n a at r e = got e (λ x t2 e2 f2. brace-end s ts t2 rest n x at (on-finished law s _ (le s.region) e2 chain nothing) f2)
+    where
+      chain : (xs : List Piece) (us : Tokens) → behind (piece.Operand a ∷ []) (inner (length mid) s false mid) ≡ (xs, Ok us) → ChainRead s true (next ts) us xs
+      chain xs us is = let c = inner (length mid) s false mid in let h = good (length mid) s false mid us c.0 (λ i. (c.0, (ap (λ p. p.1) is) i)) in
+          subst (λ l. ChainRead s true (next ts) us l) (ap (λ p. p.0) is) (let x : ChainRead s true (next ts) us (piece.Operand a ∷ c.0) = record { whole = h.whole; listed = (tt, h.listed); read = both r h.read } in x)
+
+  tuple-brace-after : (s : Setting) (ts mid rest : Tokens) (n a : Node) → Stands s.region m.OpenBrace ts → Read s.region s.has_at (next ts) mid (spell.operand a ∷ [])
+      → rule.tuple_brace_after left inner s (here ts) a mid ≡ Ok (n, rest) → Derives s.region s.has_at ts rest n
+  unfolding rule.tuple_brace_after
+  tuple-brace-after s ts mid rest n a at r e = by-setting (is_tuple_form (out-Node a).form && sees s m.Belongs mid) e
+    where
+      by-setting : (b : Bool) → and_then (rule.finished (behind (piece.Operand a ∷ []) (inner (length mid) (if b then within around.Tuple s else s) false mid))) (rule.brace_end left inner (if b then within around.Tuple s else s) (here ts)) ≡ Ok (n, rest)
+          → Derives s.region s.has_at ts rest n
+      by-setting true f = tuple-in (within around.Tuple s) ts mid rest n a at r f
+      by-setting false f = tuple-in s ts mid rest n a at r f
+
+  tuple-brace : (s : Setting) (ts rest : Tokens) (n : Node) → Stands s.region m.OpenBrace ts → rule.tuple_brace left inner s (here ts) (next ts) ≡ Ok (n, rest) → Derives s.region s.has_at ts rest n
+  unfolding rule.tuple_brace
+  tuple-brace s ts rest n at e = by-chain (inner 1 s true (next ts)) (λ xs us is. (good 1 s true (next ts) us xs is).read) e
+    where
+      by-chain : (c : Chain) → ((xs : List Piece) (us : Tokens) → c ≡ (xs, Ok us) → Read s.region s.has_at (next ts) us (spell.pieces s.region s.has_at xs)) → rule.tuple_brace_by left inner s (here ts) c ≡ Ok (n, rest)
+          → Derives s.region s.has_at ts rest n
+      by-chain (piece.Operand a ∷ [], Ok us) h f = tuple-brace-after s ts us rest n a at (h (piece.Operand a ∷ []) us refl) f
+      by-chain (piece.Operand a ∷ y ∷ ys, Ok us) h f = refused f
+      by-chain (piece.Prefix p ∷ ys, Ok us) h f = refused f
+      by-chain (piece.Infix o ∷ ys, Ok us) h f = refused f
+      by-chain (piece.Postfix q ∷ ys, Ok us) h f = refused f
+      by-chain ([], Ok us) h f = refused f
+      by-chain (ys, Err x) h f = refused f
+
+  brace : (s : Setting) (ts rest : Tokens) (n : Node) → Stands s.region m.OpenBrace ts → rule.brace left inner s ts ≡ Ok (n, rest) → Derives s.region s.has_at ts rest n
+  unfolding rule.brace rule.brace_from sees_second
+  brace s ts rest n at e = begun left _ _ e (λ f0. by-test f0
+      (λ close f1. derived f1 (spell.empty_set (here ts)) (on-sign-at at (on-sign (stands (within around.Brace s) m.CloseBrace (next ts) refl close) nothing)))
+      (λ _ f1. by-test {b = sees (within around.Brace s) m.Name (next ts) && sees (within around.Brace s) m.Belongs (next (next ts))} f1
+      (λ both-seen f2. member-brace (within around.Brace s) ts rest n at (stands (within around.Brace s) m.Name (next ts) refl (and_parts _ _ both-seen).0)
+          (stands (within around.Brace s) m.Belongs (next (next ts)) refl (and_parts (sees (within around.Brace s) m.Name (next ts)) _ both-seen).1) f2)
+      (λ _ f2. by-test f2 (λ _ f3. tuple-brace (within around.Brace s) ts rest n at f3)
+      (λ _ f3. got f3 (λ x mid e4 f4. brace-end (within around.Brace s) ts mid rest n x at (on-same (within around.Brace s) e4 nothing) f4)))))
