@@ -1,9 +1,22 @@
 -- What each rule has used.
-use Rattle.std.proofs.Common.{◌≡◌, ℕ, zero, suc, ◌≤◌, Bool, true, false, if◌then◌else◌, List, [], ◌∷◌, ◌++◌, length, Ok, Err, refl, sym, ap, subst, ◌∙◌, append_assoc, arith, nat_eq, ◌&&◌, not}
+use Rattle.std.proofs.Common.{◌≡◌, ℕ, zero, suc, ◌≤◌, Bool, true, false, if◌then◌else◌, List, [], ◌∷◌, ◌++◌, length, Ok, Err, refl, sym, ap, subst, ◌∙◌, append_assoc, arith, nat_eq, ◌&&◌, ◌||◌, not}
 use Rattle.std.proofs.lemmas.Bool.{and_parts, eqb-true}
 use Rattle.tla_ast.specs.declared.place.Place.{Place}
 use Rattle.tla_ast.specs.declared.tree.Node.{Node, out-Node}
 use Rattle.tla_ast.specs.declared.tree.Form.TheVariants as form
+use Rattle.tla_ast.specs.declared.tree.Decl.{Decl}
+use Rattle.tla_ast.specs.declared.tree.Group.{Group}
+use Rattle.tla_ast.specs.declared.tree.Def.{Def, roll-Def, out-Def}
+use Rattle.tla_ast.specs.declared.tree.Path.{Path, roll-Path}
+use Rattle.tla_ast.specs.declared.tree.Key.{Key}
+use Rattle.tla_ast.specs.declared.tree.Key.TheVariants as key
+use Rattle.operator_chain.specs.declared.chain.Ending.{Ending}
+use Rattle.operator_chain.specs.declared.chain.Ending.TheVariants as ending
+use Rattle.layout_parser.specs.declared.square.Fields.{Fields}
+use Rattle.layout_parser.specs.declared.except.Updates.{Updates}
+use Rattle.layout_parser.specs.declared.words.Arms.{Arms}
+use Rattle.layout_parser.specs.declared.bound.After.{After}
+use Rattle.layout_parser.specs.declared.bound.After.TheVariants as after_bound
 use Rattle.operator_chain.specs.Chain.{OneRightTree}
 use Rattle.operator_chain.specs.declared.chain.Piece.{Piece}
 use Rattle.operator_chain.specs.declared.chain.Piece.TheVariants as piece
@@ -14,14 +27,14 @@ use Rattle.layout_parser.specs.declared.setting.Around.TheVariants as around
 use Rattle.layout_parser.specs.declared.setting.Setting.{Setting}
 use Rattle.layout_parser.specs.declared.setting.Stop.TheVariants as stop
 use Rattle.layout_parser.specs.Marks.{Text, spelling}
-use Rattle.layout_parser.specs.Input.{Tokens, Outcome, first, next, here, sees, sees_second, and_then, ◌>>=◌, within, is_tuple, with_at, after}
+use Rattle.layout_parser.specs.Input.{Tokens, Outcome, first, next, here, sees, sees_second, declared, and_then, ◌>>=◌, within, is_tuple, with_at, after}
 use Rattle.layout_parser.specs.Reading as rule
-use Rattle.layout_parser.specs.Reading.{Chain, ChainReader, part, behind, after_member, member_at, is_whole, is_tuple_form}
+use Rattle.layout_parser.specs.Reading.{Chain, ChainReader, part, behind, after_member, member_at, is_whole, is_tuple_form, with_field, with_update}
 use Rattle.layout_parser.specs.Spelling as spell
 use Rattle.layout_parser.specs.Spelling.{Symbols, sign, sign_at, expression, same, between, word, Operand, Subscript}
 use Rattle.layout_parser.proofs.ChainLaws.{member-listed}
 use Rattle.layout_parser.proofs.Belongs.{member-fits}
-use Rattle.layout_parser.proofs.Steps.{on-token, on-operand, finish, got, refused, derived-as, subscribed-as, eaten, begun, by-test, by-reader, same-end, Read, Stands, stands, nothing, both, up-to, on-sign, on-sign-at, on-word, on-declared, on-name, on-eat, on-no, Good, ChainRead, on-finished, le, Derives, derived, Subscribes, subscribed, on-subscript}
+use Rattle.layout_parser.proofs.Steps.{is_outside, at-any-place, none-after, on-token, on-operand, finish, got, refused, derived-as, subscribed-as, eaten, begun, by-test, by-reader, same-end, Read, Stands, stands, nothing, both, up-to, on-sign, on-sign-at, on-word, on-declared, on-name, on-eat, on-no, Good, ChainRead, on-finished, le, Derives, derived, Subscribes, subscribed, on-subscript}
 
 single : (x : Node) (xs : List Node) → nat_eq (length (x ∷ xs)) 1 ≡ true → xs ≡ []
 single x [] e = refl
@@ -142,13 +155,6 @@ module _ (left : ℕ) (inner : ChainReader) (law : OneRightTree) (good : Good in
       (λ _ e2. by-test e2 (λ close e3. derived e3 (spell.enumeration x [] (here ts)) (on-sign-at at (both r (on-sign (stands s m.CloseBrace mid refl close) nothing))))
       (λ _ e3. refused e3)))
 
-  -- ---- IF
-
-  conditional : (s : Setting) (ts rest : Tokens) (n : Node) → Stands s.region m.If ts → rule.conditional left inner s ts ≡ Ok (n, rest) → Derives s.region s.has_at ts rest n
-  unfolding rule.conditional
-  conditional s ts rest n at e = got e (λ test t1 e1 f1. eaten s stop.Expression m.Then _ refl f1 (λ a2 f2. got f2 (λ yes-part t3 e3 f3. eaten s stop.Expression m.Else _ refl f3 (λ a4 f4. got f4 (λ no-part t5 e5 f5.
-      derived f5 (spell.conditional test yes-part no-part (here ts)) (on-sign-at at (on-same s e1 (on-sign a2 (on-same s e3 (on-sign a4 (on-same s e5 nothing)))))))))))
-
   -- ---- `x \in S` at the beginning of a bracket
 
   with-member : (s : Setting) (ts us : Tokens) (xs : List Piece) → Stands s.region m.Name ts → Stands s.region m.Belongs (next ts) → ChainRead s true (next (next ts)) us xs
@@ -224,3 +230,166 @@ module _ (left : ℕ) (inner : ChainReader) (law : OneRightTree) (good : Good in
           (stands (within around.Brace s) m.Belongs (next (next ts)) refl (and_parts (sees (within around.Brace s) m.Name (next ts)) _ both-seen).1) f2)
       (λ _ f2. by-test f2 (λ _ f3. tuple-brace (within around.Brace s) ts rest n at f3)
       (λ _ f3. got f3 (λ x mid e4 f4. brace-end (within around.Brace s) ts mid rest n x at (on-same (within around.Brace s) e4 nothing) f4)))))
+
+  -- ---- square brackets
+
+  record Fielded (s : Setting) (k : Mark) (found f : Fields) (ts rest : Tokens) : Type 0 where
+    pub head : Decl × Node
+    pub tail : List (Decl × Node)
+    pub names : f.names ≡ found.names ++ spell.names_of (head ∷ tail)
+    pub parts : f.parts ≡ found.parts ++ spell.parts_of (head ∷ tail)
+    pub read : Read s.region s.has_at ts rest (spell.fields s.region s.has_at k head tail)
+
+  fields-from : (n : ℕ) (s : Setting) (k : Mark) (found : Fields) (ts : Tokens) (f : Fields) (rest : Tokens) → is_outside k ≡ false → rule.fields_from left inner n s k found ts ≡ Ok (f, rest) → Fielded s k found f ts rest
+  unfolding rule.fields_from
+  fields-from zero s k found ts f rest kept e = refused e
+  fields-from (suc n) s k found ts f rest kept e = got {o = declared s stop.Other ts} e (λ d t1 e1 f1. eaten s stop.Other k _ kept f1 (λ at f2. got f2 (λ x t3 e3 f3. by-reader _ _ f3
+      (λ comma f4. let h = fields-from n s k (with_field found d x) _ f rest kept f4 in record {
+          head = (d, x); tail = h.head ∷ h.tail;
+          names = h.names ∙ append_assoc found.names (d.name ∷ []) (spell.names_of (h.head ∷ h.tail));
+          parts = h.parts ∙ append_assoc found.parts (rule.node (form.Name d.name) [] d.place ∷ x ∷ []) (spell.parts_of (h.head ∷ h.tail));
+          read = on-declared s _ e1 (on-sign at (on-same s e3 (on-eat s refl comma h.read))) })
+      (λ none f4. let z = same-end _ _ _ _ f4 in record {
+          head = (d, x); tail = []; names = ap (λ g. g.names) (sym z.0); parts = ap (λ g. g.parts) (sym z.0);
+          read = on-declared s _ e1 (on-sign at (on-same s e3 (on-no s _ none (up-to z.1 nothing)))) }))))
+
+  fields : (s : Setting) (k : Mark) (ts : Tokens) (f : Fields) (rest : Tokens) → is_outside k ≡ false → rule.fields left inner s k ts ≡ Ok (f, rest) → Fielded s k rule.no_fields f ts rest
+  unfolding rule.fields
+  fields s k ts f rest kept e = fields-from (length ts) s k rule.no_fields ts f rest kept e
+
+  record-of : (s : Setting) (ts rest : Tokens) (n : Node) → Stands s.region m.OpenSquare ts → rule.record_of left inner s (here ts) (next ts) ≡ Ok (n, rest) → Derives s.region s.has_at ts rest n
+  unfolding rule.record_of
+  record-of s ts rest n at e = got e (λ f mid e1 f1. let h = fields s m.Maps (next ts) f mid refl e1 in eaten s stop.Expression m.CloseSquare _ refl f1 (λ close f2.
+      derived-as f2 (λ i. rule.node (form.Record (h.names i)) (h.parts i) (here ts)) (spell.records h.head h.tail (here ts)) (on-sign-at at (both h.read (on-sign close nothing)))))
+
+  record-set : (s : Setting) (ts rest : Tokens) (n : Node) → Stands s.region m.OpenSquare ts → rule.record_set left inner s (here ts) (next ts) ≡ Ok (n, rest) → Derives s.region s.has_at ts rest n
+  unfolding rule.record_set
+  record-set s ts rest n at e = got e (λ f mid e1 f1. let h = fields s m.Colon (next ts) f mid refl e1 in eaten s stop.Expression m.CloseSquare _ refl f1 (λ close f2.
+      derived-as f2 (λ i. rule.node (form.RecordSet (h.names i)) (h.parts i) (here ts)) (spell.record_set h.head h.tail (here ts)) (on-sign-at at (both h.read (on-sign close nothing)))))
+
+  -- ---- paths and updates
+
+  key-end : (s : Setting) (ts us rest : Tokens) (k : Key) (end : Ending) (place : Place) → Read s.region s.has_at ts us (spell.ending_symbols s.region s.has_at end place ++ []) → rule.by_ending s end us ≡ Ok (k, rest)
+      → Read s.region s.has_at ts rest (spell.key_symbols s.region s.has_at k)
+  key-end s ts us rest k (ending.Index x) place r e = let z = same-end (key.At x) k us rest e in
+      subst (λ y. Read s.region s.has_at ts rest (spell.key_symbols s.region s.has_at y)) z.0 (up-to z.1 (at-any-place r))
+  key-end s ts us rest k (ending.Field h) place r e = let z = same-end (key.Field h) k us rest e in
+      subst (λ y. Read s.region s.has_at ts rest (spell.key_symbols s.region s.has_at y)) z.0 (up-to z.1 (at-any-place r))
+  key-end s ts us rest k ending.Prime place r e = refused e
+
+  key-of : (s : Setting) (ts rest : Tokens) (k : Key) → rule.key_of left inner s ts ≡ Ok (k, rest) → Read s.region s.has_at ts rest (spell.key_symbols s.region s.has_at k)
+  unfolding rule.key_of
+  key-of s ts rest k e = by-test {b = sees s m.OpenSquare ts || sees s m.Dot ts} e (λ _ e1. by-chain (inner 1 s false ts) (λ xs us is. (good 1 s false ts us xs is).read) e1) (λ _ e1. refused e1)
+    where
+      by-chain : (c : Chain) → ((xs : List Piece) (us : Tokens) → c ≡ (xs, Ok us) → Read s.region s.has_at ts us (spell.pieces s.region s.has_at xs)) → rule.by_key s c ≡ Ok (k, rest)
+          → Read s.region s.has_at ts rest (spell.key_symbols s.region s.has_at k)
+      by-chain (piece.Postfix q ∷ [], Ok us) h f = key-end s ts us rest k q.ending q.place (h (piece.Postfix q ∷ []) us refl) f
+      by-chain (piece.Postfix q ∷ y ∷ ys, Ok us) h f = refused f
+      by-chain (piece.Operand a ∷ ys, Ok us) h f = refused f
+      by-chain (piece.Prefix p ∷ ys, Ok us) h f = refused f
+      by-chain (piece.Infix o ∷ ys, Ok us) h f = refused f
+      by-chain ([], Ok us) h f = refused f
+      by-chain (ys, Err x) h f = refused f
+
+  record Keyed (s : Setting) (found ks : List Key) (ts rest : Tokens) : Type 0 where
+    pub head : Key
+    pub tail : List Key
+    pub are : ks ≡ found ++ head ∷ tail
+    pub read : Read s.region s.has_at ts rest (spell.keys s.region s.has_at (head ∷ tail))
+
+  keys-from : (n : ℕ) (s : Setting) (found : List Key) (ts : Tokens) (ks : List Key) (rest : Tokens) → rule.keys_from left inner n s found ts ≡ Ok (ks, rest) → Keyed s found ks ts rest
+  unfolding rule.keys_from
+  keys-from zero s found ts ks rest e = refused e
+  keys-from (suc n) s found ts ks rest e = got e (λ k mid e1 e2. by-test {b = sees s m.OpenSquare mid || sees s m.Dot mid} e2
+      (λ more e3. let h = keys-from n s (found ++ k ∷ []) mid ks rest e3 in record {
+          head = k; tail = h.head ∷ h.tail; are = h.are ∙ append_assoc found (k ∷ []) (h.head ∷ h.tail); read = both (key-of s ts mid k e1) h.read })
+      (λ none e3. let z = same-end _ _ _ _ e3 in record { head = k; tail = []; are = sym z.0; read = both (key-of s ts mid k e1) (up-to z.1 nothing) }))
+
+  keys : (s : Setting) (ts : Tokens) (ks : List Key) (rest : Tokens) → rule.keys left inner s ts ≡ Ok (ks, rest) → Keyed s [] ks ts rest
+  unfolding rule.keys
+  keys s ts ks rest e = keys-from (length ts) s [] ts ks rest e
+
+  record Updated (s : Setting) (u : Path × Node) (ts rest : Tokens) : Type 0 where
+    pub update : spell.Update
+    pub path : u.0 ≡ roll-Path (record { keys = update.0 ∷ update.1 })
+    pub value : u.1 ≡ update.2
+    pub read : Read s.region s.has_at ts rest (spell.update s.region s.has_at update)
+
+  update : (s : Setting) (ts : Tokens) (u : Path × Node) (rest : Tokens) → rule.update left inner s ts ≡ Ok (u, rest) → Updated s u ts rest
+  unfolding rule.update
+  update s ts u rest e = eaten s stop.Other m.Bang _ refl e (λ bang f0. got f0 (λ ks t1 e1 f1. let h = keys s _ ks t1 e1 in eaten s stop.Other m.Equal _ refl f1 (λ equal f2. got f2 (λ x t3 e3 f3.
+      let z = same-end _ _ _ _ f3 in record {
+        update = (h.head, h.tail, x); path = ap (λ p. p.0) (sym z.0) ∙ ap (λ l. roll-Path (record { keys = l })) h.are; value = ap (λ p. p.1) (sym z.0);
+        read = on-sign bang (both h.read (on-sign equal (on-part (with_at s) (le s.region) e3 (up-to z.1 nothing)))) }))))
+
+  record Revised (s : Setting) (found us : Updates) (ts rest : Tokens) : Type 0 where
+    pub head : spell.Update
+    pub tail : List spell.Update
+    pub paths : us.paths ≡ found.paths ++ spell.paths_of (head ∷ tail)
+    pub parts : us.parts ≡ found.parts ++ spell.values_of (head ∷ tail)
+    pub read : Read s.region s.has_at ts rest (spell.updates s.region s.has_at head tail)
+
+  updates-from : (n : ℕ) (s : Setting) (found : Updates) (ts : Tokens) (us : Updates) (rest : Tokens) → rule.updates_from left inner n s found ts ≡ Ok (us, rest) → Revised s found us ts rest
+  unfolding rule.updates_from
+  updates-from zero s found ts us rest e = refused e
+  updates-from (suc n) s found ts us rest e = got e (λ u mid e1 e2. let one = update s ts u mid e1 in by-reader _ _ e2
+      (λ comma e3. let h = updates-from n s (with_update found u.0 u.1) _ us rest e3 in record {
+          head = one.update; tail = h.head ∷ h.tail;
+          paths = h.paths ∙ append_assoc found.paths (u.0 ∷ []) (spell.paths_of (h.head ∷ h.tail)) ∙ ap (λ p. found.paths ++ p ∷ spell.paths_of (h.head ∷ h.tail)) one.path;
+          parts = h.parts ∙ append_assoc found.parts (u.1 ∷ []) (spell.values_of (h.head ∷ h.tail)) ∙ ap (λ v. found.parts ++ v ∷ spell.values_of (h.head ∷ h.tail)) one.value;
+          read = both one.read (on-eat s refl comma h.read) })
+      (λ none e3. let z = same-end _ _ _ _ e3 in record {
+          head = one.update; tail = [];
+          paths = ap (λ w. w.paths) (sym z.0) ∙ ap (λ p. found.paths ++ p ∷ []) one.path;
+          parts = ap (λ w. w.parts) (sym z.0) ∙ ap (λ v. found.parts ++ v ∷ []) one.value;
+          read = up-to z.1 (none-after s _ none one.read) }))
+
+  updates : (s : Setting) (f : Node) (ts : Tokens) (us : Updates) (rest : Tokens) → rule.updates left inner s f ts ≡ Ok (us, rest) → Revised s (rule.no_updates f) us ts rest
+  unfolding rule.updates
+  updates s f ts us rest e = updates-from (length ts) s (rule.no_updates f) ts us rest e
+
+  square-end : (s : Setting) (ts mid rest : Tokens) (n x : Node) → Stands s.region m.OpenSquare ts → Read s.region s.has_at (next ts) mid (same s.region s.has_at x ∷ [])
+      → rule.square_end left inner s (here ts) x mid ≡ Ok (n, rest) → Derives s.region s.has_at ts rest n
+  unfolding rule.square_end rule.function_set rule.except
+  square-end s ts mid rest n x at r e = by-test e
+      (λ act e1. got e1 (λ v t2 e2 f2. let h = subscript s (next mid) t2 v e2 in
+          derived f2 (spell.box_action x v h.parts (here ts) h.made) (on-sign-at at (both r (on-sign (stands s m.CloseBox mid refl act) h.read)))))
+      (λ _ e1. by-test e1
+      (λ arrow e2. got e2 (λ y t3 e3 f3. eaten s stop.Expression m.CloseSquare _ refl f3 (λ close f4.
+          derived f4 (spell.function_set x y (here ts)) (on-sign-at at (both r (on-sign (stands s m.Arrow mid refl arrow) (on-same s e3 (on-sign close nothing))))))))
+      (λ _ e2. by-test e2
+      (λ word-seen e3. got e3 (λ us t4 e4 f4. let h = updates s x (next mid) us t4 e4 in eaten s stop.Expression m.CloseSquare _ refl f4 (λ close f5.
+          derived-as f5 (λ i. rule.node (form.Except (h.paths i)) (h.parts i) (here ts)) (spell.except x h.head h.tail (here ts))
+              (on-sign-at at (both r (on-sign (stands s m.Except mid refl word-seen) (both h.read (on-sign close nothing))))))))
+      (λ _ e3. refused e3)))
+
+  member-square : (s : Setting) (ts rest : Tokens) (n : Node) → Stands s.region m.OpenSquare ts → Stands s.region m.Name (next ts) → Stands s.region m.Belongs (next (next ts))
+      → rule.member_square left inner s (here ts) (next ts) ≡ Ok (n, rest) → Derives s.region s.has_at ts rest n
+  unfolding rule.member_square rule.function set-chain
+  member-square s ts rest n at name-at sign-at e = let c = set-chain s (next ts) in by-test {b = is_whole s m.Maps c} e
+      (λ whole e1. got e1 (λ set mid e2 f2. got f2 (λ x t3 e3 f3. eaten s stop.Expression m.CloseSquare _ refl f3 (λ close f4.
+          derived f4 (spell.function (spelling (first (next ts)).tok) set x (here (next ts)))
+              (on-sign at (on-word name-at (on-sign sign-at (on-finished law s c (le s.region) e2 (λ xs us is. good _ s true _ us xs is)
+                  (on-sign (stands s m.Maps mid refl (whole-sees s m.Maps c c.0 mid (finish c set mid e2).chain whole)) (on-same s e3 (on-sign close nothing)))))))))))
+      (λ _ e1. got e1 (λ x mid e2 f2. square-end s ts mid rest n x at (on-finished law s _ (le s.region) e2 (member-chain s (next ts) name-at sign-at) nothing) f2))
+
+  square-name : (s : Setting) (ts rest : Tokens) (n : Node) → Stands s.region m.OpenSquare ts → Stands s.region m.Name (next ts) → rule.square_name left inner s (here ts) (next ts) ≡ Ok (n, rest) → Derives s.region s.has_at ts rest n
+  unfolding rule.square_name sees_second
+  square-name s ts rest n at name-at e = by-test {b = sees s m.Maps (next (next ts))} e (λ _ e1. record-of s ts rest n at e1)
+      (λ _ e1. by-test {b = sees s m.Colon (next (next ts))} e1 (λ _ e2. record-set s ts rest n at e2)
+      (λ _ e2. by-test {b = sees s m.Belongs (next (next ts))} e2 (λ seen e3. member-square s ts rest n at name-at (stands s m.Belongs (next (next ts)) refl seen) e3)
+      (λ _ e3. got e3 (λ x mid e4 f4. square-end s ts mid rest n x at (on-same s e4 nothing) f4))))
+
+  square : (s : Setting) (ts rest : Tokens) (n : Node) → Stands s.region m.OpenSquare ts → rule.square left inner s ts ≡ Ok (n, rest) → Derives s.region s.has_at ts rest n
+  unfolding rule.square rule.square_from
+  square s ts rest n at e = begun left _ _ e (λ f0. by-test f0
+      (λ seen f1. square-name (within around.Square s) ts rest n at (stands (within around.Square s) m.Name (next ts) refl seen) f1)
+      (λ _ f1. got f1 (λ x mid e2 f2. square-end (within around.Square s) ts mid rest n x at (on-same (within around.Square s) e2 nothing) f2)))
+
+  -- ---- IF
+
+  conditional : (s : Setting) (ts rest : Tokens) (n : Node) → Stands s.region m.If ts → rule.conditional left inner s ts ≡ Ok (n, rest) → Derives s.region s.has_at ts rest n
+  unfolding rule.conditional
+  conditional s ts rest n at e = got e (λ test t1 e1 f1. eaten s stop.Expression m.Then _ refl f1 (λ a2 f2. got f2 (λ yes-part t3 e3 f3. eaten s stop.Expression m.Else _ refl f3 (λ a4 f4. got f4 (λ no-part t5 e5 f5.
+      derived f5 (spell.conditional test yes-part no-part (here ts)) (on-sign-at at (on-same s e1 (on-sign a2 (on-same s e3 (on-sign a4 (on-same s e5 nothing)))))))))))
+

@@ -291,3 +291,13 @@ on-subscript h r = both h.read r
 pub on-operand : {region : ℕ} {has_at : Bool} {ts mid rest : Tokens} {n : Node} {parts ys : Symbols} → Operand region has_at n parts → Read region has_at ts mid parts → Read region has_at mid rest ys
     → Read region has_at ts rest (operand n ∷ ys)
 on-operand {rest = rest} made p q = record { used = p.used ++ q.used; is = p.is ∙ ap (λ l. p.used ++ l) q.is ∙ sym (append_assoc p.used q.used rest); spelled = of_operand made p.spelled q.spelled }
+
+-- a sign at a place is that sign
+pub at-any-place : {region : ℕ} {has_at : Bool} {ts rest : Tokens} {k : Mark} {place : Place} {ys : Symbols} → Read region has_at ts rest (sign_at k place ∷ ys) → Read region has_at ts rest (sign k ∷ ys)
+at-any-place r = record { used = r.used; is = r.is; spelled = forget r.spelled }
+  where
+    forget : {region : ℕ} {has_at : Bool} {used : Tokens} {k : Mark} {place : Place} {ys : Symbols} → Spelled region has_at (sign_at k place ∷ ys) used → Spelled region has_at (sign k ∷ ys) used
+    forget (token t may fits g) = token t may fits.0 g
+
+pub none-after : (s : Setting) (k : Mark) {ts mid : Tokens} {has_at : Bool} {ys : Symbols} → sees s k mid ≡ false → Read s.region has_at ts mid ys → Read s.region has_at ts (after s k mid) ys
+none-after s k {ts = ts} {mid = mid} {has_at = has_at} {ys = ys} unseen r = up-to (sym (after-no s k mid unseen)) r
