@@ -1,5 +1,5 @@
 -- What each rule has used.
-use Rattle.std.proofs.Common.{◌≡◌, ℕ, zero, suc, ◌≤◌, Bool, true, false, if◌then◌else◌, List, [], ◌∷◌, ◌++◌, length, Ok, Err, refl, sym, ap, subst, ◌∙◌, append_assoc, arith, nat_eq, ◌&&◌, ◌||◌, not}
+use Rattle.std.proofs.Common.{◌≡◌, ℕ, zero, suc, ◌≤◌, Bool, true, false, if◌then◌else◌, List, [], ◌∷◌, ◌++◌, length, Ok, Err, refl, sym, ap, subst, ◌∙◌, append_assoc, arith, nat_eq, ◌&&◌, ◌||◌, not, map, Option, Some, None}
 use Rattle.std.proofs.lemmas.Bool.{and_parts, eqb-true}
 use Rattle.tla_ast.specs.declared.place.Place.{Place}
 use Rattle.tla_ast.specs.declared.tree.Node.{Node, out-Node}
@@ -34,11 +34,19 @@ use Rattle.layout_parser.specs.Spelling as spell
 use Rattle.layout_parser.specs.Spelling.{Symbols, sign, sign_at, expression, same, between, word, Operand, Subscript}
 use Rattle.layout_parser.proofs.ChainLaws.{member-listed}
 use Rattle.layout_parser.proofs.Belongs.{member-fits}
-use Rattle.layout_parser.proofs.Steps.{is_outside, at-any-place, none-after, on-token, on-operand, finish, got, refused, derived-as, subscribed-as, eaten, begun, by-test, by-reader, same-end, Read, Stands, stands, nothing, both, up-to, on-sign, on-sign-at, on-word, on-declared, on-name, on-eat, on-no, Good, ChainRead, on-finished, le, Derives, derived, Subscribes, subscribed, on-subscript}
+use Rattle.layout_parser.proofs.Steps.{behind-sign, up-from, is_outside, at-any-place, none-after, on-token, on-operand, finish, got, refused, derived-as, subscribed-as, eaten, begun, by-test, by-reader, same-end, Read, Stands, stands, nothing, both, up-to, on-sign, on-sign-at, on-word, on-declared, on-name, on-eat, on-no, Good, ChainRead, on-finished, le, Derives, derived, Subscribes, subscribed, on-subscript}
 
 single : (x : Node) (xs : List Node) → nat_eq (length (x ∷ xs)) 1 ≡ true → xs ≡ []
 single x [] e = refl
 single x (y ∷ ys) e = let two : length (x ∷ y ∷ ys) ≡ 1 = eqb-true _ 1 e in absurd (omega (arith, two))
+
+not-nil : {A : Type 0} (xs : List A) (x : A) → xs ++ x ∷ [] ≡ [] → ⊥
+not-nil [] x e = absurd (cc)
+not-nil (y ∷ ys) x e = absurd (cc)
+
+empty : {A : Type 0} (xs : List A) → nat_eq (length xs) 0 ≡ true → xs ≡ []
+empty [] e = refl
+empty (x ∷ xs) e = let none : length (x ∷ xs) ≡ 0 = eqb-true _ 0 e in absurd (omega (arith, none))
 
 module _ (left : ℕ) (inner : ChainReader) (law : OneRightTree) (good : Good inner) where
   -- an expression in a further nesting
@@ -385,6 +393,107 @@ module _ (left : ℕ) (inner : ChainReader) (law : OneRightTree) (good : Good in
   square s ts rest n at e = begun left _ _ e (λ f0. by-test f0
       (λ seen f1. square-name (within around.Square s) ts rest n at (stands (within around.Square s) m.Name (next ts) refl seen) f1)
       (λ _ f1. got f1 (λ x mid e2 f2. square-end (within around.Square s) ts mid rest n x at (on-same (within around.Square s) e2 nothing) f2)))
+
+  -- ---- bound names
+
+  -- Groups that were read, of which the first has these names before those that were read; with the `:` after them.
+  data Grouped (s : Setting) (gs : List Group) (found : List Decl) (out : List Group) (ts rest : Tokens) : Type 0 where
+    with_sets : (b : spell.Bound) (bs : List spell.Bound) → out ≡ gs ++ rule.group (found ++ b.0 ∷ b.1) (Some b.2) ∷ map spell.group_of bs
+        → Read s.region s.has_at ts rest (spell.bounds s.region s.has_at b bs ++ sign m.Colon ∷ []) → Grouped s gs found out ts rest
+    without_set : (d : Decl) (ds : List Decl) → gs ≡ [] → out ≡ rule.group (found ++ d ∷ ds) None ∷ []
+        → Read s.region s.has_at ts rest (spell.names d ds ++ sign m.Colon ∷ []) → Grouped s gs found out ts rest
+
+  -- one more name before
+  one-name : (s : Setting) (gs : List Group) (found : List Decl) (d : Decl) (out : List Group) (ts mid rest : Tokens) → Read s.region s.has_at ts mid (spell.declared d ∷ sign m.Comma ∷ [])
+      → Grouped s gs (found ++ d ∷ []) out mid rest → Grouped s gs found out ts rest
+  one-name s gs found d out ts mid rest before (with_sets b [] is r) =
+      with_sets (d, b.0 ∷ b.1, b.2) [] (is ∙ ap (λ l. gs ++ rule.group l (Some b.2) ∷ []) (append_assoc found (d ∷ []) (b.0 ∷ b.1))) (both before r)
+  one-name s gs found d out ts mid rest before (with_sets b (c ∷ cs) is r) =
+      with_sets (d, b.0 ∷ b.1, b.2) (c ∷ cs) (is ∙ ap (λ l. gs ++ rule.group l (Some b.2) ∷ map spell.group_of (c ∷ cs)) (append_assoc found (d ∷ []) (b.0 ∷ b.1))) (both before r)
+  one-name s gs found d out ts mid rest before (without_set c cs none is r) =
+      without_set d (c ∷ cs) none (is ∙ ap (λ l. rule.group l None ∷ []) (append_assoc found (d ∷ []) (c ∷ cs))) (both before r)
+
+  -- one more group before
+  one-group : (s : Setting) (gs : List Group) (found : List Decl) (d : Decl) (x : Node) (out : List Group) (ts mid rest : Tokens)
+      → Read s.region s.has_at ts mid (spell.declared d ∷ sign m.Belongs ∷ same s.region s.has_at x ∷ sign m.Comma ∷ [])
+      → Grouped s (gs ++ rule.group (found ++ d ∷ []) (Some x) ∷ []) [] out mid rest → Grouped s gs found out ts rest
+  one-group s gs found d x out ts mid rest before (with_sets b bs is r) =
+      with_sets (d, [], x) (b ∷ bs) (is ∙ append_assoc gs (rule.group (found ++ d ∷ []) (Some x) ∷ []) (map spell.group_of (b ∷ bs))) (both before r)
+  one-group s gs found d x out ts mid rest before (without_set c cs none is r) = absurd (not-nil gs (rule.group (found ++ d ∷ []) (Some x)) none)
+
+  -- what stands after a bound name
+  data Followed (s : Setting) (names : List Decl) (is_first : Bool) (ts mid : Tokens) : After → Type 0 where
+    a_name : Read s.region s.has_at ts mid (sign m.Comma ∷ []) → Followed s names is_first ts mid (after_bound.Name names)
+    a_group : (x : Node) → Read s.region s.has_at ts mid (sign m.Belongs ∷ same s.region s.has_at x ∷ sign m.Comma ∷ []) → Followed s names is_first ts mid (after_bound.Group (rule.group names (Some x)))
+    last_group : (x : Node) → Read s.region s.has_at ts mid (sign m.Belongs ∷ same s.region s.has_at x ∷ sign m.Colon ∷ []) → Followed s names is_first ts mid (after_bound.Last (rule.group names (Some x)))
+    last_free : is_first ≡ true → Read s.region s.has_at ts mid (sign m.Colon ∷ []) → Followed s names is_first ts mid (after_bound.Last (rule.group names None))
+
+  followed : (s : Setting) (names : List Decl) (is_first : Bool) (ts mid us : Tokens) (a b : After) → (let x : Outcome After = Ok (a, us) in x) ≡ Ok (b, mid) → Followed s names is_first ts us a → Followed s names is_first ts mid b
+  followed s names is_first ts mid us a b e h = let z = same-end a b us mid e in subst (λ l. Followed s names is_first ts l b) z.1 (subst (λ x. Followed s names is_first ts us x) z.0 h)
+
+  after-name : (s : Setting) (names : List Decl) (is_first : Bool) (ts : Tokens) (a : After) (mid : Tokens) → rule.after_name left inner s names is_first ts ≡ Ok (a, mid) → Followed s names is_first ts mid a
+  unfolding rule.after_name rule.bound_set rule.after_set
+  after-name s names is_first ts a mid e = by-test {b = sees s m.Comma ts} e (λ comma e1. followed s names is_first ts mid _ _ a e1 (a_name (on-sign (stands s m.Comma ts refl comma) nothing)))
+      (λ _ e1. by-test {b = sees s m.Belongs ts} e1
+      (λ belongs e2. got {o = and_then (part left inner s (next ts)) (λ x us. Ok (rule.group names (Some x), us))} e2 (λ g t3 e3 f3. got {o = part left inner s (next ts)} e3 (λ x t4 e4 f4. let z = same-end _ g t4 t3 f4 in
+          let at : Stands s.region m.Belongs ts = stands s m.Belongs ts refl belongs in by-test {b = sees s m.Comma t3} f3
+          (λ comma f5. followed s names is_first ts mid _ _ a f5 (subst (λ y. Followed s names is_first ts (next t3) (after_bound.Group y)) z.0
+              (a_group x (on-sign at (on-same s e4 (up-from z.1 (on-sign (stands s m.Comma t3 refl comma) nothing)))))))
+          (λ _ f5. by-test {b = sees s m.Colon t3} f5
+          (λ colon f6. followed s names is_first ts mid _ _ a f6 (subst (λ y. Followed s names is_first ts (next t3) (after_bound.Last y)) z.0
+              (last_group x (on-sign at (on-same s e4 (up-from z.1 (on-sign (stands s m.Colon t3 refl colon) nothing)))))))
+          (λ _ f6. refused f6)))))
+      (λ _ e2. by-test {b = sees s m.Colon ts && is_first} e2
+      (λ last e3. followed s names is_first ts mid _ _ a e3 (last_free (and_parts (sees s m.Colon ts) is_first last).1 (on-sign (stands s m.Colon ts refl (and_parts _ is_first last).0) nothing)))
+      (λ _ e3. refused e3)))
+
+  by-followed : (n : ℕ) (s : Setting) (gs : List Group) (found : List Decl) (d : Decl) (ts t2 mid : Tokens) (out : List Group) (rest : Tokens) (a : After)
+      → ((hs : List Group) (names : List Decl) (us : Tokens) (o : List Group) (r : Tokens) → rule.groups_from left inner n s hs names us ≡ Ok (o, r) → Grouped s hs names o us r)
+      → ((l : Tokens) (ys : Symbols) → Read s.region s.has_at t2 l ys → Read s.region s.has_at ts l (spell.declared d ∷ ys))
+      → Followed s (found ++ d ∷ []) (nat_eq (length gs) 0) t2 mid a → rule.go_on (rule.groups_from left inner n s) gs a mid ≡ Ok (out, rest) → Grouped s gs found out ts rest
+  by-followed n s gs found d ts t2 mid out rest _ more before (a_name r) e = one-name s gs found d out ts mid rest (before _ _ r) (more gs (found ++ d ∷ []) mid out rest e)
+  by-followed n s gs found d ts t2 mid out rest _ more before (a_group x r) e = one-group s gs found d x out ts mid rest (before _ _ r) (more (gs ++ rule.group (found ++ d ∷ []) (Some x) ∷ []) [] mid out rest e)
+  by-followed n s gs found d ts t2 mid out rest _ more before (last_group x r) e = let z = same-end _ out mid rest e in with_sets (d, [], x) [] (sym z.0) (up-to z.1 (before _ _ r))
+  by-followed n s gs found d ts t2 mid out rest _ more before (last_free is r) e = let z = same-end _ out mid rest e in let none = empty gs is in
+      without_set d [] none (sym z.0 ∙ ap (λ l. l ++ rule.group (found ++ d ∷ []) None ∷ []) none) (up-to z.1 (before _ _ r))
+
+  groups-from : (n : ℕ) (s : Setting) (gs : List Group) (found : List Decl) (ts : Tokens) (out : List Group) (rest : Tokens) → rule.groups_from left inner n s gs found ts ≡ Ok (out, rest) → Grouped s gs found out ts rest
+  unfolding rule.groups_from
+  groups-from zero s gs found ts out rest e = refused e
+  groups-from (suc n) s gs found ts out rest e = got {o = and_then (declared s stop.Bound ts) (λ d us. rule.after_name left inner s (found ++ d ∷ []) (nat_eq (length gs) 0) us)} e (λ a mid e1 f1.
+      got {o = declared s stop.Bound ts} e1 (λ d t2 e2 f2. by-followed n s gs found d ts t2 mid out rest a (groups-from n s) (λ l ys r. on-declared s stop.Bound e2 r)
+          (after-name s (found ++ d ∷ []) (nat_eq (length gs) 0) t2 a mid f2) f1))
+
+  groups : (s : Setting) (ts : Tokens) (out : List Group) (rest : Tokens) → rule.groups left inner s ts ≡ Ok (out, rest) → Grouped s [] [] out ts rest
+  unfolding rule.groups
+  groups s ts out rest e = groups-from (length ts) s [] [] ts out rest e
+
+  quantifier : (all : Bool) (s : Setting) (ts rest : Tokens) (n : Node) → Stands s.region (spell.quantifier_mark all) ts → rule.quantifier left inner all s ts ≡ Ok (n, rest) → Derives s.region s.has_at ts rest n
+  unfolding rule.quantifier
+  quantifier all s ts rest n at e = got e (λ gs t1 e1 f1. got f1 (λ body t2 e2 f2. by-groups gs t1 body t2 (groups s (next ts) gs t1 e1) (on-same s e2 nothing) f2))
+    where
+      by-groups : (gs : List Group) (t1 : Tokens) (body : Node) (t2 : Tokens) → Grouped s [] [] gs (next ts) t1 → Read s.region s.has_at t1 t2 (same s.region s.has_at body ∷ [])
+          → (let x : Outcome Node = Ok (rule.node (form.Quant all gs) (body ∷ []) (here ts), t2) in x) ≡ Ok (n, rest) → Derives s.region s.has_at ts rest n
+      by-groups gs t1 body t2 (with_sets b bs is r) last f = derived-as f (ap (λ l. rule.node (form.Quant all l) (body ∷ []) (here ts)) is) (spell.bounded all b bs body (here ts))
+          (on-sign-at at (behind-sign (spell.bounds s.region s.has_at b bs) (sign m.Colon) r last))
+      by-groups gs t1 body t2 (without_set d ds none is r) last f = derived-as f (ap (λ l. rule.node (form.Quant all l) (body ∷ []) (here ts)) is) (spell.unbounded all d ds body (here ts))
+          (on-sign-at at (behind-sign (spell.names d ds) (sign m.Colon) r last))
+
+  record Domained (s : Setting) (set : Option Node) (ts rest : Tokens) : Type 0 where
+    pub read : Read s.region s.has_at ts rest (spell.set_of s.region s.has_at set ++ sign m.Colon ∷ [])
+
+  domain : (s : Setting) (ts : Tokens) (set : Option Node) (rest : Tokens) → rule.domain left inner s ts ≡ Ok (set, rest) → Domained s set ts rest
+  unfolding rule.domain
+  domain s ts set rest e = by-test {b = sees s m.Belongs ts} e
+      (λ belongs e1. got {o = part left inner s (next ts)} e1 (λ x t2 e2 f2. eaten s stop.Expression m.Colon _ refl f2 (λ colon f3. let z = same-end (Some x) set _ rest f3 in
+          subst (λ o. Domained s o ts rest) z.0 (record { read = on-sign (stands s m.Belongs ts refl belongs) (on-same s e2 (on-sign colon (up-to z.1 nothing))) }))))
+      (λ _ e1. eaten s stop.Other m.Colon _ refl e1 (λ colon f2. let z = same-end None set _ rest f2 in
+          subst (λ o. Domained s o ts rest) z.0 (record { read = on-sign colon (up-to z.1 nothing) })))
+
+  choose : (s : Setting) (ts rest : Tokens) (n : Node) → Stands s.region m.Choose ts → rule.choose left inner s ts ≡ Ok (n, rest) → Derives s.region s.has_at ts rest n
+  unfolding rule.choose
+  choose s ts rest n at e = got {o = declared s stop.Bound (next ts)} e (λ d t1 e1 f1. got {o = rule.domain left inner s t1} f1 (λ set t2 e2 f2. got f2 (λ body t3 e3 f3.
+      derived f3 (spell.choose d set body (here ts)) (on-sign-at at (on-declared s stop.Bound e1 (behind-sign (spell.set_of s.region s.has_at set) (sign m.Colon) (domain s t1 set t2 e2).read (on-same s e3 nothing)))))))
 
   -- ---- IF
 

@@ -301,3 +301,11 @@ at-any-place r = record { used = r.used; is = r.is; spelled = forget r.spelled }
 
 pub none-after : (s : Setting) (k : Mark) {ts mid : Tokens} {has_at : Bool} {ys : Symbols} → sees s k mid ≡ false → Read s.region has_at ts mid ys → Read s.region has_at ts (after s k mid) ys
 none-after s k {ts = ts} {mid = mid} {has_at = has_at} {ys = ys} unseen r = up-to (sym (after-no s k mid unseen)) r
+
+pub up-from : {region : ℕ} {has_at : Bool} {ts mid rest : Tokens} {ys : Symbols} → ts ≡ mid → Read region has_at mid rest ys → Read region has_at ts rest ys
+up-from {region} {has_at} {rest = rest} {ys = ys} e h = subst (λ l. Read region has_at l rest ys) (sym e) h
+
+-- a sign behind symbols, and more symbols
+pub behind-sign : {region : ℕ} {has_at : Bool} {ts mid rest : Tokens} {zs : Symbols} (ys : Symbols) (y : Symbol) → Read region has_at ts mid (ys ++ y ∷ []) → Read region has_at mid rest zs
+    → Read region has_at ts rest (ys ++ y ∷ zs)
+behind-sign {region} {has_at} {ts} {mid} {rest} {zs} ys y h r = subst (λ l. Read region has_at ts rest l) (append_assoc ys (y ∷ []) zs) (both h r)
