@@ -1,6 +1,6 @@
 -- What each rule has used.
-use Rattle.std.proofs.Common.{◌≡◌, ℕ, zero, suc, ◌≤◌, Bool, true, false, if◌then◌else◌, List, [], ◌∷◌, ◌++◌, length, Ok, Err, refl, sym, ap, subst, ◌∙◌, append_assoc, arith, nat_eq, ◌&&◌, ◌||◌, not, map, Option, Some, None}
-use Rattle.std.proofs.lemmas.Bool.{and_parts, eqb-true}
+use Rattle.std.proofs.Common.{◌≡◌, ℕ, zero, suc, ◌≤◌, ◌<◌, nat_lt, Bool, true, false, if◌then◌else◌, List, [], ◌∷◌, ◌++◌, length, Ok, Err, refl, sym, ap, subst, ◌∙◌, append_assoc, arith, nat_eq, ◌&&◌, ◌||◌, not, map, Option, Some, None}
+use Rattle.std.proofs.lemmas.Bool.{and_parts, eqb-true, ltb-true}
 use Rattle.tla_ast.specs.declared.place.Place.{Place}
 use Rattle.tla_ast.specs.declared.tree.Node.{Node, out-Node}
 use Rattle.tla_ast.specs.declared.tree.Form.TheVariants as form
@@ -26,15 +26,15 @@ use Rattle.layout_parser.specs.declared.setting.Around.{Around}
 use Rattle.layout_parser.specs.declared.setting.Around.TheVariants as around
 use Rattle.layout_parser.specs.declared.setting.Setting.{Setting}
 use Rattle.layout_parser.specs.declared.setting.Stop.TheVariants as stop
-use Rattle.layout_parser.specs.Marks.{Text, spelling}
-use Rattle.layout_parser.specs.Input.{Tokens, Outcome, first, next, here, sees, sees_second, declared, and_then, ◌>>=◌, within, is_tuple, with_at, after}
+use Rattle.layout_parser.specs.Marks.{Text, spelling, same_mark}
+use Rattle.layout_parser.specs.Input.{Tokens, Outcome, first, next, here, sees, sees_second, declared, and_then, ◌>>=◌, within, is_tuple, is_inside, mark, right_of, with_at, after}
 use Rattle.layout_parser.specs.Reading as rule
 use Rattle.layout_parser.specs.Reading.{Chain, ChainReader, part, behind, after_member, member_at, is_whole, is_tuple_form, with_field, with_update}
 use Rattle.layout_parser.specs.Spelling as spell
 use Rattle.layout_parser.specs.Spelling.{Symbols, sign, sign_at, expression, same, between, word, Operand, Subscript}
 use Rattle.layout_parser.proofs.ChainLaws.{member-listed}
 use Rattle.layout_parser.proofs.Belongs.{member-fits}
-use Rattle.layout_parser.proofs.Steps.{behind-sign, up-from, is_outside, at-any-place, none-after, on-token, on-operand, finish, got, refused, derived-as, subscribed-as, eaten, begun, by-test, by-reader, same-end, Read, Stands, stands, nothing, both, up-to, on-sign, on-sign-at, on-word, on-declared, on-name, on-eat, on-no, Good, ChainRead, on-finished, le, Derives, derived, Subscribes, subscribed, on-subscript}
+use Rattle.layout_parser.proofs.Steps.{in-front, after-no, stands-at, marks-same, behind-sign, up-from, is_outside, at-any-place, none-after, on-token, on-operand, finish, got, refused, derived-as, subscribed-as, eaten, begun, by-test, by-reader, same-end, Read, Stands, stands, nothing, both, up-to, on-sign, on-sign-at, on-word, on-declared, on-name, on-eat, on-no, Good, ChainRead, on-finished, le, Derives, derived, Subscribes, subscribed, on-subscript}
 
 single : (x : Node) (xs : List Node) → nat_eq (length (x ∷ xs)) 1 ≡ true → xs ≡ []
 single x [] e = refl
@@ -47,6 +47,9 @@ not-nil (y ∷ ys) x e = absurd (cc)
 empty : {A : Type 0} (xs : List A) → nat_eq (length xs) 0 ≡ true → xs ≡ []
 empty [] e = refl
 empty (x ∷ xs) e = let none : length (x ∷ xs) ≡ 0 = eqb-true _ 0 e in absurd (omega (arith, none))
+
+below : {a b : ℕ} → nat_lt a b ≡ true → a ≤ b
+below {a} {b} e = let less : a < b = ltb-true a b e in omega arith
 
 module _ (left : ℕ) (inner : ChainReader) (law : OneRightTree) (good : Good inner) where
   -- an expression in a further nesting
@@ -502,3 +505,208 @@ module _ (left : ℕ) (inner : ChainReader) (law : OneRightTree) (good : Good in
   conditional s ts rest n at e = got e (λ test t1 e1 f1. eaten s stop.Expression m.Then _ refl f1 (λ a2 f2. got f2 (λ yes-part t3 e3 f3. eaten s stop.Expression m.Else _ refl f3 (λ a4 f4. got f4 (λ no-part t5 e5 f5.
       derived f5 (spell.conditional test yes-part no-part (here ts)) (on-sign-at at (on-same s e1 (on-sign a2 (on-same s e3 (on-sign a4 (on-same s e5 nothing)))))))))))
 
+  -- ---- CASE
+
+  arm : (s : Setting) (ts : Tokens) (a : spell.Arm) (rest : Tokens) → rule.arm left inner s ts ≡ Ok (a, rest) → Read s.region s.has_at ts rest (spell.arm s.region s.has_at a)
+  unfolding rule.arm
+  arm s ts a rest e = got e (λ x t1 e1 f1. eaten s stop.Expression m.Arrow _ refl f1 (λ arrow f2. got {o = part left inner s (next t1)} f2 (λ y t3 e3 f3. let z = same-end (x, y) a t3 rest f3 in
+      subst (λ b. Read s.region s.has_at ts rest (spell.arm s.region s.has_at b)) z.0 (on-same s e1 (on-sign arrow (on-same s e3 (up-to z.1 nothing)))))))
+
+  -- arms that were read, behind these parts
+  data Armed (s : Setting) (found : List Node) (out : Arms) (ts rest : Tokens) : Type 0 where
+    plain_arms : (a : spell.Arm) (more : List spell.Arm) → out ≡ record { parts = found ++ spell.arm_parts (a ∷ more); other = false }
+        → Read s.region s.has_at ts rest (spell.arms s.region s.has_at a more) → Armed s found out ts rest
+    with_other : (a : spell.Arm) (more : List spell.Arm) (x : Node) → out ≡ record { parts = found ++ (spell.arm_parts (a ∷ more) ++ x ∷ []); other = true }
+        → Read s.region s.has_at ts rest (spell.arms s.region s.has_at a more ++ sign m.Always ∷ sign m.Other ∷ sign m.Arrow ∷ same s.region s.has_at x ∷ []) → Armed s found out ts rest
+
+  one-arm : (s : Setting) (found : List Node) (a : spell.Arm) (out : Arms) (ts mid rest : Tokens) → Read s.region s.has_at ts mid (spell.arm s.region s.has_at a ++ sign m.Always ∷ [])
+      → Armed s (found ++ a.0 ∷ a.1 ∷ []) out mid rest → Armed s found out ts rest
+  one-arm s found a out ts mid rest before (plain_arms b bs is r) =
+      plain_arms a (b ∷ bs) (is ∙ ap (λ l. record { parts = l; other = false }) (append_assoc found (a.0 ∷ a.1 ∷ []) (spell.arm_parts (b ∷ bs)))) (both before r)
+  one-arm s found a out ts mid rest before (with_other b bs x is r) =
+      with_other a (b ∷ bs) x (is ∙ ap (λ l. record { parts = l; other = true }) (append_assoc found (a.0 ∷ a.1 ∷ []) (spell.arm_parts (b ∷ bs) ++ x ∷ []))) (both before r)
+
+  arms-from : (n : ℕ) (s : Setting) (found : List Node) (ts : Tokens) (out : Arms) (rest : Tokens) → rule.arms_from left inner n s found ts ≡ Ok (out, rest) → Armed s found out ts rest
+  unfolding rule.arms_from rule.other_arm
+  arms-from zero s found ts out rest e = refused e
+  arms-from (suc n) s found ts out rest e = got {o = rule.arm left inner s ts} e (λ a t1 e1 f1. let one = arm s ts a t1 e1 in by-reader {b = sees s m.Always t1} _ _ f1
+      (λ always f2. by-reader {b = sees s m.Other (after s m.Always t1)} _ _ f2
+          (λ other f3. eaten s stop.Other m.Arrow _ refl f3 (λ arrow f4. got {o = part left inner s (next (after s m.Other (after s m.Always t1)))} f4 (λ x t5 e5 f5. let z = same-end _ out t5 rest f5 in
+              with_other a [] x (sym z.0 ∙ ap (λ l. record { parts = l; other = true }) (append_assoc found (a.0 ∷ a.1 ∷ []) (x ∷ [])))
+                  (both one (on-eat s refl always (on-eat s refl other (on-sign arrow (on-same s e5 (up-to z.1 nothing)))))))))
+          (λ plain-arm f3. one-arm s found a out ts _ rest (both one (on-eat s refl always nothing)) (arms-from n s (found ++ a.0 ∷ a.1 ∷ []) (after s m.Always t1) out rest
+              (subst (λ l. rule.arms_from left inner n s (found ++ a.0 ∷ a.1 ∷ []) l ≡ Ok (out, rest)) (after-no s m.Other (after s m.Always t1) plain-arm) f3))))
+      (λ none f2. let z = same-end _ out _ rest f2 in plain_arms a [] (sym z.0) (up-to z.1 (none-after s _ none one))))
+
+  arms : (s : Setting) (ts : Tokens) (out : Arms) (rest : Tokens) → rule.arms left inner s ts ≡ Ok (out, rest) → Armed s [] out ts rest
+  unfolding rule.arms
+  arms s ts out rest e = arms-from (length ts) s [] ts out rest e
+
+  cases : (s : Setting) (ts rest : Tokens) (n : Node) → Stands s.region m.Case ts → rule.cases left inner s ts ≡ Ok (n, rest) → Derives s.region s.has_at ts rest n
+  unfolding rule.cases
+  cases s ts rest n at e = got {o = rule.arms left inner s (next ts)} e (λ a t1 e1 f1. by-arms a t1 (arms s (next ts) a t1 e1) f1)
+    where
+      by-arms : (a : Arms) (t1 : Tokens) → Armed s [] a (next ts) t1 → (let x : Outcome Node = Ok (rule.node (form.Case a.other) a.parts (here ts), t1) in x) ≡ Ok (n, rest) → Derives s.region s.has_at ts rest n
+      by-arms a t1 (plain_arms b bs is r) f = derived-as f (ap (λ q. rule.node (form.Case q.other) q.parts (here ts)) is) (spell.cases b bs (here ts)) (on-sign-at at r)
+      by-arms a t1 (with_other b bs x is r) f = derived-as f (ap (λ q. rule.node (form.Case q.other) q.parts (here ts)) is) (spell.cases_with_other b bs x (here ts)) (on-sign-at at r)
+
+  -- ---- LET
+
+  record Parametered (s : Setting) (found ds : List Decl) (ts rest : Tokens) : Type 0 where
+    pub head : Decl
+    pub tail : List Decl
+    pub are : ds ≡ found ++ head ∷ tail
+    pub read : Read s.region s.has_at ts rest (spell.names head tail)
+
+  parameters-from : (n : ℕ) (s : Setting) (found : List Decl) (ts : Tokens) (ds : List Decl) (rest : Tokens) → rule.parameters_from n s found ts ≡ Ok (ds, rest) → Parametered s found ds ts rest
+  unfolding rule.parameters_from
+  parameters-from zero s found ts ds rest e = refused e
+  parameters-from (suc n) s found ts ds rest e = got {o = declared s stop.Other ts} e (λ d t1 e1 f1. by-reader {b = sees s m.Comma t1} _ _ f1
+      (λ comma f2. let h = parameters-from n s (found ++ d ∷ []) _ ds rest f2 in record {
+          head = d; tail = h.head ∷ h.tail; are = h.are ∙ append_assoc found (d ∷ []) (h.head ∷ h.tail); read = on-declared s stop.Other e1 (on-eat s refl comma h.read) })
+      (λ none f2. let z = same-end _ ds _ rest f2 in record { head = d; tail = []; are = sym z.0; read = on-declared s stop.Other e1 (on-no s _ none (up-to z.1 nothing)) }))
+
+  parameter-list : (s : Setting) (ts : Tokens) (ds : List Decl) (rest : Tokens) → rule.parameter_list s ts ≡ Ok (ds, rest) → Parametered s [] ds ts rest
+  unfolding rule.parameter_list
+  parameter-list s ts ds rest e = parameters-from (length ts) s [] ts ds rest e
+
+  parameters : (s : Setting) (ts : Tokens) (ds : List Decl) (rest : Tokens) → Stands s.region m.OpenParen ts → rule.parameters left inner s ts ≡ Ok (ds, rest)
+      → Read s.region s.has_at ts rest (spell.parameters ds)
+  unfolding rule.parameters
+  parameters s ts ds rest at e = begun left _ _ e (λ f0. got {o = rule.parameter_list (within around.Other s) (next ts)} f0 (λ xs t1 e1 f1. let h = parameter-list (within around.Other s) (next ts) xs t1 e1 in
+      eaten (within around.Other s) stop.Parameter m.CloseParen _ refl f1 (λ close f2. let z = same-end xs ds _ rest f2 in
+      subst (λ l. Read s.region s.has_at ts rest (spell.parameters l)) (sym h.are ∙ z.0) (on-sign at (both h.read (on-sign close (up-to z.1 nothing)))))))
+
+  head : (s : Setting) (ts : Tokens) (ds : List Decl) (rest : Tokens) → rule.head left inner s ts ≡ Ok (ds, rest) → Read s.region s.has_at ts rest (spell.parameters ds ++ sign m.Defines ∷ [])
+  unfolding rule.head
+  head s ts ds rest e = by-test {b = sees s m.OpenParen ts} e
+      (λ paren e1. got {o = rule.parameters left inner s ts} e1 (λ xs t2 e2 f2. eaten s stop.Other m.Defines _ refl f2 (λ defines f3. let z = same-end xs ds _ rest f3 in
+          subst (λ l. Read s.region s.has_at ts rest (spell.parameters l ++ sign m.Defines ∷ [])) z.0 (both (parameters s ts xs t2 (stands s m.OpenParen ts refl paren) e2) (on-sign defines (up-to z.1 nothing))))))
+      (λ _ e1. eaten s stop.Defined m.Defines _ refl e1 (λ defines f2. let z = same-end [] ds _ rest f2 in
+          subst (λ l. Read s.region s.has_at ts rest (spell.parameters l ++ sign m.Defines ∷ [])) z.0 (on-sign defines (up-to z.1 nothing))))
+
+  record OneDefined (s : Setting) (d : Def) (ts rest : Tokens) : Type 0 where
+    pub def : spell.Definition
+    pub is : d ≡ spell.def_of def
+    pub read : Read s.region s.has_at ts rest (spell.definition s.region s.has_at def)
+
+  definition : (s : Setting) (ts : Tokens) (d : Def) (rest : Tokens) → rule.definition left inner s ts ≡ Ok (d, rest) → OneDefined s d ts rest
+  unfolding rule.definition
+  definition s ts d rest e = got {o = declared s stop.Other ts} e (λ x t1 e1 f1. got {o = rule.head left inner s t1} f1 (λ ds t2 e2 f2. got {o = part left inner s t2} f2 (λ body t3 e3 f3.
+      let z = same-end (roll-Def (record { name = x.name; params = ds; body = body; place = x.place })) d t3 rest f3 in record {
+        def = (x, ds, body); is = sym z.0;
+        read = on-declared s stop.Other e1 (behind-sign (spell.parameters ds) (sign m.Defines) (head s t1 ds t2 e2) (on-same s e3 (up-to z.1 nothing))) })))
+
+  record Defined (s : Setting) (found ds : List Def) (ts rest : Tokens) : Type 0 where
+    pub head : spell.Definition
+    pub tail : List spell.Definition
+    pub are : ds ≡ found ++ map spell.def_of (head ∷ tail)
+    pub read : Read s.region s.has_at ts rest (spell.definitions s.region s.has_at (head ∷ tail) ++ sign m.In ∷ [])
+
+  definitions-from : (n : ℕ) (s : Setting) (found : List Def) (ts : Tokens) (ds : List Def) (rest : Tokens) → rule.definitions_from left inner n s found ts ≡ Ok (ds, rest) → Defined s found ds ts rest
+  unfolding rule.definitions_from
+  definitions-from zero s found ts ds rest e = refused e
+  definitions-from (suc n) s found ts ds rest e = got {o = rule.definition left inner s ts} e (λ d t1 e1 f1. let one = definition s ts d t1 e1 in by-test {b = sees s m.Name t1} f1
+      (λ more f2. let h = definitions-from n s (found ++ d ∷ []) t1 ds rest f2 in record {
+          head = one.def; tail = h.head ∷ h.tail;
+          are = h.are ∙ append_assoc found (d ∷ []) (map spell.def_of (h.head ∷ h.tail)) ∙ ap (λ q. found ++ q ∷ map spell.def_of (h.head ∷ h.tail)) one.is;
+          read = in-front (sign m.In) (spell.definition s.region s.has_at one.def) (spell.definitions s.region s.has_at (h.head ∷ h.tail)) one.read h.read })
+      (λ none f2. eaten s stop.Expression m.In _ refl f2 (λ in-seen f3. let z = same-end _ ds _ rest f3 in record {
+          head = one.def; tail = []; are = sym z.0 ∙ ap (λ q. found ++ q ∷ []) one.is;
+          read = in-front (sign m.In) (spell.definition s.region s.has_at one.def) [] one.read (on-sign in-seen (up-to z.1 nothing)) })))
+
+  definitions : (s : Setting) (ts : Tokens) (ds : List Def) (rest : Tokens) → rule.definitions left inner s ts ≡ Ok (ds, rest) → Defined s [] ds ts rest
+  unfolding rule.definitions
+  definitions s ts ds rest e = definitions-from (length ts) s [] ts ds rest e
+
+  local : (s : Setting) (ts rest : Tokens) (n : Node) → Stands s.region m.Let ts → rule.local left inner s ts ≡ Ok (n, rest) → Derives s.region s.has_at ts rest n
+  unfolding rule.local
+  local s ts rest n at e = got {o = rule.definitions left inner s (next ts)} e (λ ds t1 e1 f1. got f1 (λ body t2 e2 f2. let h = definitions s (next ts) ds t1 e1 in
+      derived-as f2 (ap (λ l. rule.node (form.Let l) (body ∷ []) (here ts)) h.are) (spell.local h.head h.tail body (here ts))
+          (on-sign-at at (behind-sign (spell.definitions s.region s.has_at (h.head ∷ h.tail)) (sign m.In) h.read (on-same s e2 nothing)))))
+
+  -- ---- junction lists
+
+  record Itemed (region : ℕ) (s : Setting) (k : Mark) (found xs : List Node) (ts rest : Tokens) : Type 0 where
+    pub head : Node
+    pub tail : List Node
+    pub are : xs ≡ found ++ head ∷ tail
+    pub read : Read region s.has_at (next ts) rest (expression s.region s.has_at head ∷ spell.items s.region s.has_at k s.region tail)
+
+  -- the items, of which the first has its bullet at the next token
+  items-from : (n region : ℕ) (s : Setting) (k : Mark) (found : List Node) (ts : Tokens) (xs : List Node) (rest : Tokens) → is_outside k ≡ false → nat_lt region s.region ≡ true
+      → rule.items_from left inner n s k found ts ≡ Ok (xs, rest) → Itemed region s k found xs ts rest
+  unfolding rule.items_from
+  items-from zero region s k found ts xs rest kept over e = refused e
+  items-from (suc n) region s k found ts xs rest kept over e = got e (λ x mid e1 e2. by-test {b = nat_eq (here mid).column s.region && same_mark (mark mid) k} e2
+      (λ more e3. let h = items-from n region s k (found ++ x ∷ []) mid xs rest kept over e3 in
+          let column : (here mid).column ≡ s.region = eqb-true _ _ (and_parts (nat_eq (here mid).column s.region) _ more).0 in
+          let bullet : Stands region k mid = stands-at region k mid kept (subst (λ c. nat_lt region c ≡ true) (sym column) over) (marks-same (mark mid) k (and_parts (nat_eq (here mid).column s.region) _ more).1) in
+          record {
+          head = x; tail = h.head ∷ h.tail; are = h.are ∙ append_assoc found (x ∷ []) (h.head ∷ h.tail);
+          read = on-part s (below over) e1 (on-token bullet.may (bullet.marked, column) bullet.some h.read) })
+      (λ none e3. let z = same-end _ xs mid rest e3 in record { head = x; tail = []; are = sym z.0; read = on-part s (below over) e1 (up-to z.1 nothing) }))
+
+  items : (region : ℕ) (s : Setting) (k : Mark) (ts : Tokens) (xs : List Node) (rest : Tokens) → is_outside k ≡ false → nat_lt region s.region ≡ true
+      → rule.items left inner s k ts ≡ Ok (xs, rest) → Itemed region s k [] xs ts rest
+  unfolding rule.items
+  items region s k ts xs rest kept over e = items-from (length ts) region s k [] ts xs rest kept over e
+
+  junction : (all : Bool) (s : Setting) (ts rest : Tokens) (n : Node) → is_outside (spell.junction_mark all) ≡ false → Stands s.region (spell.junction_mark all) ts
+      → rule.junction left inner all (spell.junction_mark all) s ts ≡ Ok (n, rest) → Derives s.region s.has_at ts rest n
+  unfolding rule.junction
+  junction all s ts rest n kept at e = got {o = rule.items left inner (right_of (here ts).column s) (spell.junction_mark all) ts} e (λ xs t1 e1 f1.
+      let h = items s.region (right_of (here ts).column s) (spell.junction_mark all) ts xs t1 kept at.may.0 e1 in
+      derived-as f1 (ap (λ l. rule.node (form.Junction all) l (here ts)) h.are) (spell.junction all h.head h.tail (here ts)) (on-sign-at at h.read))
+
+  -- ---- operands
+
+  at-sign : (s : Setting) (ts rest : Tokens) (n : Node) → Stands s.region m.At ts → rule.at left inner s ts ≡ Ok (n, rest) → Derives s.region s.has_at ts rest n
+  unfolding rule.at
+  at-sign s ts rest n at e = by-test {b = s.has_at} e (λ yes-at e1. derived e1 (spell.at_sign (here ts) yes-at) (on-sign-at at nothing)) (λ _ e1. refused e1)
+
+  value : (s : Setting) (ts rest : Tokens) (n : Node) → Stands s.region m.Value ts → rule.value ts ≡ Ok (n, rest) → Derives s.region s.has_at ts rest n
+  unfolding rule.value
+  value s ts rest n at e = derived e (spell.value _ _) (on-word at nothing)
+
+  number : (s : Setting) (ts rest : Tokens) (n : Node) → Stands s.region m.Number ts → rule.literal ts ≡ Ok (n, rest) → Derives s.region s.has_at ts rest n
+  unfolding rule.literal
+  number s ts rest n at e = derived e (spell.number _ _) (on-token at.may (at.marked, refl, refl) at.some nothing)
+
+  text : (s : Setting) (ts rest : Tokens) (n : Node) → Stands s.region m.Str ts → rule.literal ts ≡ Ok (n, rest) → Derives s.region s.has_at ts rest n
+  unfolding rule.literal
+  text s ts rest n at e = derived e (spell.text _ _) (on-token at.may (at.marked, refl, refl) at.some nothing)
+
+  operand-by : (s : Setting) (ts rest : Tokens) (n : Node) (k : Mark) → ((is_outside k ≡ false) → Stands s.region k ts) → rule.operand_by left inner s k ts ≡ Ok (n, rest) → Derives s.region s.has_at ts rest n
+  operand-by s ts rest n m.Name at e = named s ts rest n (at refl) e
+  operand-by s ts rest n m.Value at e = value s ts rest n (at refl) e
+  operand-by s ts rest n m.Number at e = number s ts rest n (at refl) e
+  operand-by s ts rest n m.Str at e = text s ts rest n (at refl) e
+  operand-by s ts rest n m.OpenParen at e = record { parts = _; made = spell.plain n _ (spell.parentheses n); read = parentheses s ts rest n (at refl) e }
+  operand-by s ts rest n m.OpenBrace at e = brace s ts rest n (at refl) e
+  operand-by s ts rest n m.OpenSquare at e = square s ts rest n (at refl) e
+  operand-by s ts rest n m.OpenAngle at e = angle s ts rest n (at refl) e
+  operand-by s ts rest n m.And at e = junction true s ts rest n refl (at refl) e
+  operand-by s ts rest n m.Or at e = junction false s ts rest n refl (at refl) e
+  operand-by s ts rest n m.Forall at e = quantifier true s ts rest n (at refl) e
+  operand-by s ts rest n m.Exists at e = quantifier false s ts rest n (at refl) e
+  operand-by s ts rest n m.Choose at e = choose s ts rest n (at refl) e
+  operand-by s ts rest n m.If at e = conditional s ts rest n (at refl) e
+  operand-by s ts rest n m.Case at e = cases s ts rest n (at refl) e
+  operand-by s ts rest n m.Let at e = local s ts rest n (at refl) e
+  operand-by s ts rest n m.Weak at e = fair false s ts rest n (at refl) e
+  operand-by s ts rest n m.Strong at e = fair true s ts rest n (at refl) e
+  operand-by s ts rest n m.At at e = at-sign s ts rest n (at refl) e
+  operand-by s ts rest n _ at e = refused e
+
+  pub operand : (s : Setting) (ts rest : Tokens) (n : Node) → rule.operand left inner s ts ≡ Ok (n, rest) → Derives s.region s.has_at ts rest n
+  unfolding rule.operand
+  operand s ts rest n e = by-test {b = is_inside s ts} e (λ inside e1. operand-by s ts rest n (mark ts) (λ kept. stands-at s.region (mark ts) ts kept inside refl) e1) (λ _ e1. refused e1)
+
+  -- the argument of `f[e]`, with its brackets
+  pub index : (s : Setting) (ts rest : Tokens) (n : Node) → Stands s.region m.OpenSquare ts → rule.index left inner s ts ≡ Ok (n, rest)
+      → Read s.region s.has_at ts rest (sign_at m.OpenSquare (here ts) ∷ same s.region s.has_at n ∷ sign m.CloseSquare ∷ [])
+  unfolding rule.index
+  index s ts rest n at e = begun left _ _ e (λ f0. got f0 (λ x t1 e1 f1. eaten (within around.Square s) stop.Expression m.CloseSquare _ refl f1 (λ close f2. let z = same-end x n _ rest f2 in
+      subst (λ y. Read s.region s.has_at ts rest (sign_at m.OpenSquare (here ts) ∷ same s.region s.has_at y ∷ sign m.CloseSquare ∷ [])) z.0
+          (on-sign-at at (on-same (within around.Square s) e1 (on-sign close (up-to z.1 nothing)))))))

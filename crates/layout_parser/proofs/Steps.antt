@@ -83,7 +83,7 @@ pub not-empty : (ts : Tokens) → is_last (first ts).tok ≡ false → ts ≡ fi
 not-empty [] h = absurd (true≢false h)
 not-empty (t ∷ ts) h = refl
 
-marks-same : (a b : Mark) → same_mark a b ≡ true → a ≡ b
+pub marks-same : (a b : Mark) → same_mark a b ≡ true → a ≡ b
 unfolding same_mark
 marks-same a b e = same_true the_type (search rules) a b e
 
@@ -309,3 +309,7 @@ up-from {region} {has_at} {rest = rest} {ys = ys} e h = subst (λ l. Read region
 pub behind-sign : {region : ℕ} {has_at : Bool} {ts mid rest : Tokens} {zs : Symbols} (ys : Symbols) (y : Symbol) → Read region has_at ts mid (ys ++ y ∷ []) → Read region has_at mid rest zs
     → Read region has_at ts rest (ys ++ y ∷ zs)
 behind-sign {region} {has_at} {ts} {mid} {rest} {zs} ys y h r = subst (λ l. Read region has_at ts rest l) (append_assoc ys (y ∷ []) zs) (both h r)
+
+-- more symbols in front of those before a sign
+pub in-front : {region : ℕ} {has_at : Bool} {ts mid rest : Tokens} (y : Symbol) (xs ys : Symbols) → Read region has_at ts mid xs → Read region has_at mid rest (ys ++ y ∷ []) → Read region has_at ts rest ((xs ++ ys) ++ y ∷ [])
+in-front {region} {has_at} {ts} {mid} {rest} y xs ys h r = subst (λ l. Read region has_at ts rest l) (sym (append_assoc xs ys (y ∷ []))) (both h r)

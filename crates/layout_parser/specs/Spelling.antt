@@ -7,7 +7,7 @@ use Rattle.tla_ast.specs.declared.tree.Form.{Form}
 use Rattle.tla_ast.specs.declared.tree.Form.TheVariants as form
 use Rattle.tla_ast.specs.declared.tree.Decl.{Decl}
 use Rattle.tla_ast.specs.declared.tree.Group.{Group}
-use Rattle.tla_ast.specs.declared.tree.Def.{Def, out-Def}
+use Rattle.tla_ast.specs.declared.tree.Def.{Def, roll-Def}
 use Rattle.tla_ast.specs.declared.tree.Path.{Path, roll-Path}
 use Rattle.tla_ast.specs.declared.tree.Key.{Key}
 use Rattle.tla_ast.specs.declared.tree.Key.TheVariants as key
@@ -124,6 +124,13 @@ abbrev pub arm_parts : List Arm → List Node
 arm_parts [] = []
 arm_parts (a ∷ more) = a.0 ∷ a.1 ∷ arm_parts more
 
+-- the name of a definition, its parameters and its right side
+abbrev pub Definition : Type 0
+Definition = Decl × List Decl × Node
+
+abbrev pub def_of : Definition → Def
+def_of d = roll-Def (record { name = d.0.name; params = d.1; body = d.2; place = d.0.place })
+
 module _ (region : ℕ) (has_at : Bool) where
   -- an expression of the same region
   abbrev pub same : Node → Symbol
@@ -194,10 +201,10 @@ module _ (region : ℕ) (has_at : Bool) where
   arms a more = between m.Always (arm a) (map arm more)
 
   -- `name(parameters) == body`
-  abbrev pub definition : Def → Symbols
-  definition d = word m.Name (out-Def d).name (out-Def d).place ∷ (parameters (out-Def d).params ++ sign m.Defines ∷ same (out-Def d).body ∷ [])
+  abbrev pub definition : Definition → Symbols
+  definition d = declared d.0 ∷ (parameters d.1 ++ sign m.Defines ∷ same d.2 ∷ [])
 
-  abbrev pub definitions : List Def → Symbols
+  abbrev pub definitions : List Definition → Symbols
   definitions [] = []
   definitions (d ∷ ds) = definition d ++ definitions ds
 
@@ -270,8 +277,8 @@ module _ (region : ℕ) (has_at : Bool) where
     cases_with_other : (a : Arm) (more : List Arm) (e : Node) (place : Place)
         → Operand (node (form.Case true) (arm_parts (a ∷ more) ++ e ∷ []) place)
             (sign_at m.Case place ∷ (arms a more ++ sign m.Always ∷ sign m.Other ∷ sign m.Arrow ∷ same e ∷ []))
-    local : (d : Def) (ds : List Def) (body : Node) (place : Place)
-        → Operand (node (form.Let (d ∷ ds)) (body ∷ []) place)
+    local : (d : Definition) (ds : List Definition) (body : Node) (place : Place)
+        → Operand (node (form.Let (map def_of (d ∷ ds))) (body ∷ []) place)
             (sign_at m.Let place ∷ (definitions (d ∷ ds) ++ sign m.In ∷ same body ∷ []))
     junction : (all : Bool) (x : Node) (xs : List Node) (place : Place)
         → Operand (node (form.Junction all) (x ∷ xs) place)
