@@ -4,3 +4,5 @@ pub mod Rows
 pub mod Belongs
 pub mod Steps
 pub mod Readers
+pub mod Chains
+pub mod Ends
