@@ -67,13 +67,13 @@ module _ (left : ℕ) (inner : ChainReader) where
 -- ---- what is read is the front of a chain, of operators of the table
 
 -- the piece may stand there, and an operand must come after it or not
-abbrev Suits : Bool → Piece → Bool → Type 0
+abbrev pub Suits : Bool → Piece → Bool → Type 0
 Suits waits (piece.Operand a) opens = (waits ≡ true) × (opens ≡ false)
 Suits waits (piece.Prefix p) opens = (waits ≡ true) × (opens ≡ true)
 Suits waits (piece.Infix o) opens = (waits ≡ false) × (opens ≡ true)
 Suits waits (piece.Postfix q) opens = (waits ≡ false) × (opens ≡ false)
 
-abbrev IsGood : Bool → Step → Type 0
+abbrev pub IsGood : Bool → Step → Type 0
 IsGood waits (More x opens) = Suits waits x opens × IsListed x
 IsGood waits Ended = Unit {0}
 IsGood waits (Broken None f) = Unit {0}
@@ -99,7 +99,7 @@ operator-listed s fix ts o e = by-test (is_inside s ts) e
     by-test true e2 = by-row (first ts) fix (operator (spelling (first ts).tok) fix) o refl e2
     by-test false e2 = absurd (none-some _ e2)
 
-index-listed : (a : Node) (place : Place) → IsListed (index_at a place)
+pub index-listed : (a : Node) (place : Place) → IsListed (index_at a place)
 unfolding operator postfix_rows
 index-listed a place = refl
 
@@ -147,7 +147,7 @@ module _ (left : ℕ) (inner : ChainReader) where
   good-after s (Some o) ts is = ((refl, refl), operator-listed s Infix ts o is)
   good-after s None ts is = cond_both (is_inside s ts) (suffixed left inner s (mark ts) ts) (Ended, ts) (λ p. IsGood false p.0) (λ _. good-suffixed s (mark ts) ts) (λ _. tt)
 
-  good-step : (s : Setting) (waits : Bool) (ts : Tokens) → IsGood waits (step left inner s waits ts).0
+  pub good-step : (s : Setting) (waits : Bool) (ts : Tokens) → IsGood waits (step left inner s waits ts).0
   unfolding step_before step_after
   good-step s true ts = good-before s (operator_in s Prefix ts) ts refl
   good-step s false ts = good-after s (operator_in s Infix ts) ts refl

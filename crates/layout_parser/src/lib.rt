@@ -9,6 +9,7 @@ mod cursor;
 mod except;
 mod flat;
 mod grammar;
+mod laws;
 mod mark;
 mod member;
 mod operand;
@@ -18,4 +19,5 @@ mod square;
 mod step;
 mod words;
 
+pub use laws::{end_is_exact, ends_before_the_last, inside_the_region, one_reading, read_in_order};
 pub use reader::{MOST_NESTINGS, read_expr};

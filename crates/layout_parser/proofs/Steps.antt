@@ -1,0 +1,315 @@
+-- What a reader has used, step by step.
+use Rattle.std.proofs.Common.{◌≡◌, ℕ, zero, suc, ◌≤◌, Bool, true, false, if◌then◌else◌, ◌&&◌, nat_lt, Result, List, [], ◌∷◌, ◌++◌, Option, Some, None, Ok, Err, refl, sym, subst, ap, ◌∙◌, append_assoc, arith, rules}
+use Rattle.std.proofs.lemmas.Bool.{true≢false, false≢true, and_parts}
+use denote.Enum.Bare.{same_true}
+use Rattle.std.proofs.lemmas.Option.{none-some}
+use Rattle.tla_ast.specs.declared.place.Place.{Place}
+use Rattle.tla_ast.specs.declared.token.Token.{Token}
+use Rattle.tla_ast.specs.declared.token.Tok.{Tok}
+use Rattle.tla_ast.specs.declared.token.Tok.TheVariants as tok
+use Rattle.tla_ast.specs.declared.fault.SynFault.{SynFault}
+use Rattle.tla_ast.specs.declared.tree.Node.{Node}
+use Rattle.tla_ast.specs.declared.tree.Decl.{Decl}
+use Rattle.tla_ast.specs.Listing.{is_last}
+use Rattle.layout_parser.specs.contracts.mark.Mark.{the_type}
+use Rattle.layout_parser.specs.declared.mark.Mark.{Mark}
+use Rattle.layout_parser.specs.declared.mark.Mark.TheVariants as m
+use Rattle.layout_parser.specs.declared.setting.Setting.{Setting}
+use Rattle.layout_parser.specs.declared.setting.Stop.{Stop}
+use Rattle.layout_parser.specs.Marks.{Text, mark_of, spelling, same_mark}
+use Rattle.layout_parser.specs.Input.{Tokens, Outcome, Reader, and_then, ◌>>=◌, ◌>>◌, first, next, here, mark, is_inside, sees, expect, name, declared, refusal, opening, eat, after}
+use Rattle.std_names.specs.declared.operators.Fix.{Fix}
+use Rattle.std_names.specs.declared.operators.Fix.TheVariants.{Prefix, Infix, Postfix}
+use Rattle.std_names.specs.Operators.{operator, prefix_rows, infix_rows, postfix_rows}
+use Rattle.operator_chain.specs.declared.chain.Operator.{Operator}
+use Rattle.operator_chain.specs.declared.chain.Piece.{Piece}
+use Rattle.operator_chain.specs.Tree.{Tree, node_of, flat, is_right}
+use Rattle.operator_chain.specs.Chain.{IsWhole, OneRightTree, tree_of, fault_of}
+use Rattle.operator_chain.specs.Listed.{AreListed}
+use Rattle.layout_parser.specs.Reading.{Chain, ChainReader, operator_at, operator_in, finished, by_tree}
+use Rattle.layout_parser.specs.Spelling.{Symbol, sign, sign_at, word, field_name, operand, operator_sign, expression, Symbols, Fits, MayUse, Operand, Subscript, pieces, Spelled, none, token, of_operand, of_tree}
+use Rattle.layout_parser.specs.Spelling as spell
+
+-- ---- outcomes
+
+-- a step that was made, and what came after it
+pub got : {A B : Type 0} {o : Outcome A} {f : A → Reader B} {b : B} {rest : Tokens} {X : Type 0} → and_then o f ≡ Ok (b, rest)
+    → ((a : A) (mid : Tokens) → o ≡ Ok (a, mid) → f a mid ≡ Ok (b, rest) → X) → X
+got {o = Ok p} e k = k p.0 p.1 refl e
+got {o = Err x} e k = absurd (cc)
+
+-- no outcome is a fault and a result
+pub refused : {A : Type 0} {f : SynFault} {a : A} {rest : Tokens} {X : Type 0} → (let x : Outcome A = Err f in x) ≡ Ok (a, rest) → X
+refused e = absurd (cc)
+
+-- what an outcome is
+pub same-end : {A : Type 0} (a b : A) (ts us : Tokens) → (let x : Outcome A = Ok (a, ts) in x) ≡ Ok (b, us) → (a ≡ b) × (ts ≡ us)
+same-end {A = A} a b ts us e = (ap (λ p. p.0) pair, ap (λ p. p.1) pair)
+  where
+    of_ok : Outcome A → A × Tokens
+    of_ok (Ok p) = p
+    of_ok (Err x) = (a, ts)
+    pair : (let p : A × Tokens = (a, ts) in p) ≡ (b, us)
+    pair = ap of_ok e
+
+pub by-test : {A : Type 0} {b : Bool} {x y z : A} {X : Type 0} → (if b then x else y) ≡ z → (b ≡ true → x ≡ z → X) → (b ≡ false → y ≡ z → X) → X
+by-test {b = true} e yes-case no-case = yes-case refl e
+by-test {b = false} e yes-case no-case = no-case refl e
+
+-- ---- tokens
+
+-- the tokens up to `rest` are a spelling of the symbols
+pub record Read (region : ℕ) (has_at : Bool) (ts rest : Tokens) (ys : Symbols) : Type 0 where
+  pub used : Tokens
+  pub is : ts ≡ used ++ rest
+  pub spelled : Spelled region has_at ys used
+
+-- the next token lies in the region, has this mark and ends no list
+pub record Stands (region : ℕ) (k : Mark) (ts : Tokens) : Type 0 where
+  pub may : MayUse region (first ts)
+  pub marked : mark_of (first ts).tok ≡ k
+  pub some : ts ≡ first ts ∷ next ts
+
+abbrev pub is_outside : Mark → Bool
+is_outside m.Outside = true
+is_outside _ = false
+
+not-last : (t : Tok) → is_outside (mark_of t) ≡ false → is_last t ≡ false
+not-last tok.End h = absurd (true≢false h)
+not-last tok.Eof h = absurd (true≢false h)
+not-last _ h = refl
+
+pub not-empty : (ts : Tokens) → is_last (first ts).tok ≡ false → ts ≡ first ts ∷ next ts
+not-empty [] h = absurd (true≢false h)
+not-empty (t ∷ ts) h = refl
+
+pub marks-same : (a b : Mark) → same_mark a b ≡ true → a ≡ b
+unfolding same_mark
+marks-same a b e = same_true the_type (search rules) a b e
+
+pub stands-at : (region : ℕ) (k : Mark) (ts : Tokens) → is_outside k ≡ false → nat_lt region (here ts).column ≡ true → mark ts ≡ k → Stands region k ts
+unfolding mark
+stands-at region k ts kept inside marked =
+    let last : is_last (first ts).tok ≡ false = not-last (first ts).tok (ap is_outside marked ∙ kept) in
+    record { may = (inside, last); marked = marked; some = not-empty ts last }
+
+pub stands : (s : Setting) (k : Mark) (ts : Tokens) → is_outside k ≡ false → sees s k ts ≡ true → Stands s.region k ts
+unfolding sees
+stands s k ts kept e = stands-at s.region k ts kept (and_parts _ _ e).0 (marks-same (mark ts) k (and_parts _ _ e).1)
+
+-- ---- reads
+
+pub nothing : {region : ℕ} {has_at : Bool} {ts : Tokens} → Read region has_at ts ts []
+nothing = record { used = []; is = refl; spelled = none }
+
+pub on-token : {region : ℕ} {has_at : Bool} {ts rest : Tokens} {y : Symbol} {ys : Symbols} → MayUse region (first ts) → Fits y (first ts) → ts ≡ first ts ∷ next ts
+    → Read region has_at (next ts) rest ys → Read region has_at ts rest (y ∷ ys)
+on-token {ts = ts} may fits some r = record { used = first ts ∷ r.used; is = some ∙ ap (λ l. first ts ∷ l) r.is; spelled = token (first ts) may fits r.spelled }
+
+pub on-sign : {region : ℕ} {has_at : Bool} {k : Mark} {ts rest : Tokens} {ys : Symbols} → Stands region k ts → Read region has_at (next ts) rest ys → Read region has_at ts rest (sign k ∷ ys)
+on-sign h r = on-token h.may h.marked h.some r
+
+pub on-sign-at : {region : ℕ} {has_at : Bool} {k : Mark} {ts rest : Tokens} {ys : Symbols} → Stands region k ts → Read region has_at (next ts) rest ys → Read region has_at ts rest (sign_at k (here ts) ∷ ys)
+on-sign-at h r = on-token h.may (h.marked, refl) h.some r
+
+pub on-word : {region : ℕ} {has_at : Bool} {k : Mark} {ts rest : Tokens} {ys : Symbols} → Stands region k ts → Read region has_at (next ts) rest ys
+    → Read region has_at ts rest (word k (spelling (first ts).tok) (here ts) ∷ ys)
+on-word h r = on-token h.may (h.marked, refl, refl) h.some r
+
+joined : {region : ℕ} {has_at : Bool} {ys zs : Symbols} {used more : Tokens} → Spelled region has_at ys used → Spelled region has_at zs more → Spelled region has_at (ys ++ zs) (used ++ more)
+joined none h = h
+joined (token t may fits g) h = token t may fits (joined g h)
+joined {region} {has_at} {zs = zs} {more = more} (of_operand {n = n} {ys = ys} {used = a} {more = b} made parts g) h =
+    subst (Spelled region has_at (operand n ∷ (ys ++ zs))) (sym (append_assoc a b more)) (of_operand made parts (joined g h))
+joined {region} {has_at} {zs = zs} {more = more} (of_tree {inner = inner} {at = at} {n = n} {ys = ys} {used = a} {more = b} t is right listed inside parts g) h =
+    subst (Spelled region has_at (expression inner at n ∷ (ys ++ zs))) (sym (append_assoc a b more)) (of_tree t is right listed inside parts (joined g h))
+
+pub both : {region : ℕ} {has_at : Bool} {ts mid rest : Tokens} {ys zs : Symbols} → Read region has_at ts mid ys → Read region has_at mid rest zs → Read region has_at ts rest (ys ++ zs)
+both {rest = rest} p q = record { used = p.used ++ q.used; is = p.is ∙ ap (λ l. p.used ++ l) q.is ∙ sym (append_assoc p.used q.used rest); spelled = joined p.spelled q.spelled }
+
+-- the same with another end
+pub up-to : {region : ℕ} {has_at : Bool} {ts mid rest : Tokens} {ys : Symbols} → mid ≡ rest → Read region has_at ts mid ys → Read region has_at ts rest ys
+up-to {region} {has_at} {ts = ts} {ys = ys} e h = subst (λ l. Read region has_at ts l ys) e h
+
+-- ---- the small readers
+
+-- the token that a test asks is read
+pub is-next : {A : Type 0} {b : Bool} {x : A} (f : SynFault) {ts mid : Tokens} {a : A} → (let r : Outcome A = if b then Ok (x, ts) else Err f in r) ≡ Ok (a, mid) → (b ≡ true) × (x ≡ a) × (ts ≡ mid)
+is-next {b = true} {x = x} f {ts = ts} {mid = mid} {a = a} e = (refl, (same-end x a ts mid e).0, (same-end x a ts mid e).1)
+is-next {b = false} f e = absurd (cc)
+
+-- a token that was asked for has been read
+pub eaten : (s : Setting) (before : Stop) (k : Mark) {B : Type 0} {ts : Tokens} (q : Reader B) {b : B} {rest : Tokens} {X : Type 0} → is_outside k ≡ false
+    → (expect s before k >> q) ts ≡ Ok (b, rest) → (Stands s.region k ts → q (next ts) ≡ Ok (b, rest) → X) → X
+unfolding expect
+eaten s before k {ts = ts} q {b = b} {rest = rest} kept e go = got {o = expect s before k ts} {f = λ _. q} e (λ u mid e1 e2. let h = is-next _ e1 in
+    go (stands s k ts kept h.0) (subst (λ l. q l ≡ Ok (b, rest)) (sym h.2) e2))
+
+pub on-declared : (s : Setting) (before : Stop) {d : Decl} {ts mid rest : Tokens} {has_at : Bool} {ys : Symbols} → declared s before ts ≡ Ok (d, mid)
+    → Read s.region has_at mid rest ys → Read s.region has_at ts rest (spell.declared d ∷ ys)
+unfolding declared
+on-declared s before {ts = ts} {rest = rest} {has_at = has_at} {ys = ys} e r = let h = is-next _ e in let at : Stands s.region m.Name ts = stands s m.Name ts refl h.0 in
+    on-token at.may (at.marked, sym h.1) at.some (subst (λ l. Read s.region has_at l rest ys) (sym h.2) r)
+
+pub on-name : (s : Setting) (before : Stop) {x : Text} {ts mid rest : Tokens} {has_at : Bool} {ys : Symbols} → name s before ts ≡ Ok (x, mid)
+    → Read s.region has_at mid rest ys → Read s.region has_at ts rest (field_name x ∷ ys)
+unfolding name
+on-name s before {ts = ts} {rest = rest} {has_at = has_at} {ys = ys} e r = let h = is-next _ e in let at : Stands s.region m.Name ts = stands s m.Name ts refl h.0 in
+    on-token at.may (at.marked, h.1) at.some (subst (λ l. Read s.region has_at l rest ys) (sym h.2) r)
+
+-- what begins a bracket has been read
+pub begun : (left : ℕ) {B : Type 0} (ts : Tokens) (f : Place → Reader B) {b : B} {rest : Tokens} {X : Type 0} → (opening left >>= f) ts ≡ Ok (b, rest) → (f (here ts) (next ts) ≡ Ok (b, rest) → X) → X
+unfolding opening
+begun zero ts f e go = absurd (cc)
+begun (suc n) ts f e go = go e
+
+-- ---- operators
+
+no-spelling : (t : Tok) (fix : Fix) (row : ℕ × ℕ × Bool) → operator (spelling t) fix ≡ Some row → is_last t ≡ false
+unfolding operator prefix_rows infix_rows postfix_rows
+no-spelling tok.End Prefix row e = absurd (none-some _ e)
+no-spelling tok.End Infix row e = absurd (none-some _ e)
+no-spelling tok.End Postfix row e = absurd (none-some _ e)
+no-spelling tok.Eof Prefix row e = absurd (none-some _ e)
+no-spelling tok.Eof Infix row e = absurd (none-some _ e)
+no-spelling tok.Eof Postfix row e = absurd (none-some _ e)
+no-spelling _ fix row e = refl
+
+operator-last : (t : Token) (fix : Fix) (r : Option (ℕ × ℕ × Bool)) (o : Operator) → operator (spelling t.tok) fix ≡ r → operator_at t r ≡ Some o → is_last t.tok ≡ false
+operator-last t fix (Some row) o is e = no-spelling t.tok fix row is
+operator-last t fix None o is e = absurd (none-some _ e)
+
+pub on-operator : (s : Setting) (fix : Fix) {o : Operator} {ts rest : Tokens} {has_at : Bool} {ys : Symbols} → operator_in s fix ts ≡ Some o → Read s.region has_at (next ts) rest ys
+    → Read s.region has_at ts rest (operator_sign fix o ∷ ys)
+unfolding operator_in
+on-operator s fix {o = o} {ts = ts} {rest = rest} {has_at = has_at} {ys = ys} e r = by-test e
+    (λ inside is. let last : is_last (first ts).tok ≡ false = operator-last (first ts) fix _ o refl is in on-token (inside, last) is (not-empty ts last) r)
+    (λ _ none-is. absurd (none-some _ none-is))
+
+-- ---- tests of the next token
+
+pub by-reader : {A : Type 0} {b : Bool} (p q : Reader A) {us : Tokens} {z : Outcome A} {X : Type 0} → (if b then p else q) us ≡ z → (b ≡ true → p us ≡ z → X) → (b ≡ false → q us ≡ z → X) → X
+by-reader {b = true} p q e yes-case no-case = yes-case refl e
+by-reader {b = false} p q e yes-case no-case = no-case refl e
+
+pub after-no : (s : Setting) (k : Mark) (ts : Tokens) → sees s k ts ≡ false → after s k ts ≡ ts
+unfolding after
+after-no s k ts e = ap (λ b. if b then next ts else ts) e
+
+after-yes : (s : Setting) (k : Mark) (ts : Tokens) → sees s k ts ≡ true → after s k ts ≡ next ts
+unfolding after
+after-yes s k ts e = ap (λ b. if b then next ts else ts) e
+
+pub on-eat : (s : Setting) {k : Mark} {ts rest : Tokens} {has_at : Bool} {ys : Symbols} → is_outside k ≡ false → sees s k ts ≡ true → Read s.region has_at (after s k ts) rest ys → Read s.region has_at ts rest (sign k ∷ ys)
+on-eat s {k = k} {ts = ts} {rest = rest} {has_at = has_at} {ys = ys} kept seen r = on-sign (stands s k ts kept seen) (subst (λ l. Read s.region has_at l rest ys) (after-yes s k ts seen) r)
+
+pub on-no : (s : Setting) (k : Mark) {ts rest : Tokens} {has_at : Bool} {ys : Symbols} → sees s k ts ≡ false → Read s.region has_at (after s k ts) rest ys → Read s.region has_at ts rest ys
+on-no s k {ts = ts} {rest = rest} {has_at = has_at} {ys = ys} unseen r = subst (λ l. Read s.region has_at l rest ys) (after-no s k ts unseen) r
+
+-- ---- chains
+
+-- the pieces of a chain have been read, and the chain is whole
+pub record ChainRead (s : Setting) (waits : Bool) (ts rest : Tokens) (xs : List Piece) : Type 0 where
+  pub whole : IsWhole waits xs
+  pub listed : AreListed xs
+  pub read : Read s.region s.has_at ts rest (pieces s.region s.has_at xs)
+
+-- what a reader of chains reads is a whole chain
+abbrev pub Good : ChainReader → Type 0
+Good inner = (n : ℕ) (s : Setting) (waits : Bool) (ts rest : Tokens) (xs : List Piece) → inner n s waits ts ≡ (xs, Ok rest) → ChainRead s waits ts rest xs
+
+-- what a chain that was finished is
+pub record Finished (c : Chain) (n : Node) (rest : Tokens) : Type 0 where
+  pub tree : Tree
+  pub is : tree_of c.0 ≡ Some tree
+  pub node : n ≡ node_of tree
+  pub chain : c ≡ (c.0, Ok rest)
+
+pub finish : (c : Chain) (n : Node) (rest : Tokens) → finished c ≡ Ok (n, rest) → Finished c n rest
+unfolding finished
+finish c n rest e = go (tree_of c.0) (fault_of c.0) c.1 refl refl e
+  where
+    go : (o : Option Tree) (w : Option Place) (r : Result Tokens SynFault) → tree_of c.0 ≡ o → c.1 ≡ r → by_tree o w r ≡ Ok (n, rest) → Finished c n rest
+    go (Some t) w (Ok us) is end e = let h = same-end (node_of t) n us rest e in
+        record { tree = t; is = is; node = sym h.0; chain = λ i. (c.0, (end ∙ ap Ok h.1) i) }
+    go (Some t) w (Err f) is end e = absurd (cc)
+    go None (Some p) r is end e = absurd (cc)
+    go None None r is end e = absurd (cc)
+
+pub le : (n : ℕ) → n ≤ n
+le n = omega arith
+
+-- an expression is read, whose chain was
+pub on-finished : OneRightTree → (s : Setting) {region : ℕ} {has_at : Bool} {ts mid rest : Tokens} {n : Node} {ys : Symbols} (c : Chain) → region ≤ s.region → finished c ≡ Ok (n, mid)
+    → ((xs : List Piece) (us : Tokens) → c ≡ (xs, Ok us) → ChainRead s true ts us xs)
+    → Read region has_at mid rest ys → Read region has_at ts rest (expression s.region s.has_at n ∷ ys)
+on-finished law s {region = region} {ts = ts} {mid = mid} {rest = rest} {n = n} {ys = ys} c inside e chain r =
+    let f : Finished c n mid = finish c n mid e in
+    let h : ChainRead s true ts mid c.0 = chain c.0 mid f.chain in
+    let tree : (flat f.tree ≡ c.0) × (is_right f.tree ≡ true) = (law c.0 f.tree h.whole h.listed).1 f.is in
+    record {
+      used = h.read.used ++ r.used;
+      is = h.read.is ∙ ap (λ l. h.read.used ++ l) r.is ∙ sym (append_assoc h.read.used r.used rest);
+      spelled = of_tree f.tree f.node tree.1 (subst AreListed (sym tree.0) h.listed) inside
+          (subst (λ l. Spelled s.region s.has_at (pieces s.region s.has_at l) h.read.used) (sym tree.0) h.read.spelled) r.spelled
+    }
+
+-- an operand has been read
+pub record Derives (region : ℕ) (has_at : Bool) (ts rest : Tokens) (n : Node) : Type 0 where
+  pub parts : Symbols
+  pub made : Operand region has_at n parts
+  pub read : Read region has_at ts rest parts
+
+pub derived : {region : ℕ} {has_at : Bool} {ts mid rest : Tokens} {a n : Node} {parts : Symbols} → (let x : Outcome Node = Ok (a, mid) in x) ≡ Ok (n, rest) → Operand region has_at a parts → Read region has_at ts mid parts
+    → Derives region has_at ts rest n
+derived {region = region} {has_at = has_at} {ts = ts} {mid = mid} {rest = rest} {a = a} {n = n} {parts = parts} e made r = let h = same-end a n mid rest e in
+    record { parts = parts; made = subst (λ x. Operand region has_at x parts) h.0 made; read = up-to h.1 r }
+
+-- the same, where the node is another one's equal
+pub derived-as : {region : ℕ} {has_at : Bool} {ts mid rest : Tokens} {a b n : Node} {parts : Symbols} → (let x : Outcome Node = Ok (a, mid) in x) ≡ Ok (n, rest) → a ≡ b → Operand region has_at b parts
+    → Read region has_at ts mid parts → Derives region has_at ts rest n
+derived-as {region = region} {has_at = has_at} {parts = parts} e same made r = derived e (subst (λ x. Operand region has_at x parts) (sym same) made) r
+
+-- a subscript has been read
+pub record Subscribes (region : ℕ) (has_at : Bool) (ts rest : Tokens) (n : Node) : Type 0 where
+  pub parts : Symbols
+  pub made : Subscript region has_at n parts
+  pub read : Read region has_at ts rest parts
+
+pub subscribed : {region : ℕ} {has_at : Bool} {ts mid rest : Tokens} {a n : Node} {parts : Symbols} → (let x : Outcome Node = Ok (a, mid) in x) ≡ Ok (n, rest) → Subscript region has_at a parts → Read region has_at ts mid parts
+    → Subscribes region has_at ts rest n
+subscribed {region = region} {has_at = has_at} {ts = ts} {mid = mid} {rest = rest} {a = a} {n = n} {parts = parts} e made r = let h = same-end a n mid rest e in
+    record { parts = parts; made = subst (λ x. Subscript region has_at x parts) h.0 made; read = up-to h.1 r }
+
+pub subscribed-as : {region : ℕ} {has_at : Bool} {ts mid rest : Tokens} {a b n : Node} {parts : Symbols} → (let x : Outcome Node = Ok (a, mid) in x) ≡ Ok (n, rest) → a ≡ b → Subscript region has_at b parts
+    → Read region has_at ts mid parts → Subscribes region has_at ts rest n
+subscribed-as {region = region} {has_at = has_at} {parts = parts} e same made r = subscribed e (subst (λ x. Subscript region has_at x parts) (sym same) made) r
+
+pub on-subscript : {region : ℕ} {has_at : Bool} {ts mid rest : Tokens} {n : Node} {ys : Symbols} → (h : Subscribes region has_at ts mid n) → Read region has_at mid rest ys → Read region has_at ts rest (h.parts ++ ys)
+on-subscript h r = both h.read r
+
+pub on-operand : {region : ℕ} {has_at : Bool} {ts mid rest : Tokens} {n : Node} {parts ys : Symbols} → Operand region has_at n parts → Read region has_at ts mid parts → Read region has_at mid rest ys
+    → Read region has_at ts rest (operand n ∷ ys)
+on-operand {rest = rest} made p q = record { used = p.used ++ q.used; is = p.is ∙ ap (λ l. p.used ++ l) q.is ∙ sym (append_assoc p.used q.used rest); spelled = of_operand made p.spelled q.spelled }
+
+-- a sign at a place is that sign
+pub at-any-place : {region : ℕ} {has_at : Bool} {ts rest : Tokens} {k : Mark} {place : Place} {ys : Symbols} → Read region has_at ts rest (sign_at k place ∷ ys) → Read region has_at ts rest (sign k ∷ ys)
+at-any-place r = record { used = r.used; is = r.is; spelled = forget r.spelled }
+  where
+    forget : {region : ℕ} {has_at : Bool} {used : Tokens} {k : Mark} {place : Place} {ys : Symbols} → Spelled region has_at (sign_at k place ∷ ys) used → Spelled region has_at (sign k ∷ ys) used
+    forget (token t may fits g) = token t may fits.0 g
+
+pub none-after : (s : Setting) (k : Mark) {ts mid : Tokens} {has_at : Bool} {ys : Symbols} → sees s k mid ≡ false → Read s.region has_at ts mid ys → Read s.region has_at ts (after s k mid) ys
+none-after s k {ts = ts} {mid = mid} {has_at = has_at} {ys = ys} unseen r = up-to (sym (after-no s k mid unseen)) r
+
+pub up-from : {region : ℕ} {has_at : Bool} {ts mid rest : Tokens} {ys : Symbols} → ts ≡ mid → Read region has_at mid rest ys → Read region has_at ts rest ys
+up-from {region} {has_at} {rest = rest} {ys = ys} e h = subst (λ l. Read region has_at l rest ys) (sym e) h
+
+-- a sign behind symbols, and more symbols
+pub behind-sign : {region : ℕ} {has_at : Bool} {ts mid rest : Tokens} {zs : Symbols} (ys : Symbols) (y : Symbol) → Read region has_at ts mid (ys ++ y ∷ []) → Read region has_at mid rest zs
+    → Read region has_at ts rest (ys ++ y ∷ zs)
+behind-sign {region} {has_at} {ts} {mid} {rest} {zs} ys y h r = subst (λ l. Read region has_at ts rest l) (append_assoc ys (y ∷ []) zs) (both h r)
+
+-- more symbols in front of those before a sign
+pub in-front : {region : ℕ} {has_at : Bool} {ts mid rest : Tokens} (y : Symbol) (xs ys : Symbols) → Read region has_at ts mid xs → Read region has_at mid rest (ys ++ y ∷ []) → Read region has_at ts rest ((xs ++ ys) ++ y ∷ [])
+in-front {region} {has_at} {ts} {mid} {rest} y xs ys h r = subst (λ l. Read region has_at ts rest l) (sym (append_assoc xs ys (y ∷ []))) (both h r)

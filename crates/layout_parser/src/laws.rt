@@ -1,0 +1,39 @@
+//! Laws of readings, in the words of the language.
+
+ghost use Rattle.layout_parser.specs.Laws.{ReadInOrder, InsideTheRegion, EndIsExact, EndsBeforeTheLast, OneReading};
+
+use operator_chain::one_right_tree;
+
+/// What is read is what the tokens from the first up to the end of the reading spell, in order: the node's own tokens, with the
+/// parentheses, commas and words that leave no node put back.
+pub fn read_in_order()
+    ensures { ReadInOrder }
+{
+    one_right_tree();
+}
+
+/// No token outside the region is used.
+pub fn inside_the_region()
+    ensures { InsideTheRegion }
+{
+    one_right_tree();
+}
+
+/// A reading ends before the first token that doesn't go on with it.
+pub fn end_is_exact()
+    ensures { EndIsExact }
+{
+    one_right_tree();
+}
+
+/// In a list that ends with an end token, a reading ends before that token at the latest.
+pub fn ends_before_the_last()
+    ensures { EndsBeforeTheLast }
+{
+    one_right_tree();
+}
+
+/// There is one reading at most.
+pub fn one_reading()
+    ensures { OneReading }
+{}
