@@ -47,6 +47,7 @@ fn push_decls(out: &mut Vec<u8>, decls: &[Decl], places: bool) -> Result<(), All
     Ok(())
 }
 
+#[cycle(nodes)]
 fn push_group(out: &mut Vec<u8>, group: &Group, places: bool) -> Result<(), AllocError> {
     push_decls(out, group.names.as_slice(), places)?;
     if let Some(domain) = &group.domain {
@@ -56,6 +57,7 @@ fn push_group(out: &mut Vec<u8>, group: &Group, places: bool) -> Result<(), Allo
     Ok(())
 }
 
+#[cycle(nodes)]
 fn push_def(out: &mut Vec<u8>, def: &Def, places: bool) -> Result<(), AllocError> {
     push_named(out, def.name.bytes(), &def.place, places)?;
     if !def.params.is_empty() {
@@ -67,6 +69,7 @@ fn push_def(out: &mut Vec<u8>, def: &Def, places: bool) -> Result<(), AllocError
     push_node(out, def.body.get(), places)
 }
 
+#[cycle(nodes)]
 fn push_key(out: &mut Vec<u8>, key: &Key, places: bool) -> Result<(), AllocError> {
     match key {
         Key::Field(name) => {
@@ -81,6 +84,7 @@ fn push_key(out: &mut Vec<u8>, key: &Key, places: bool) -> Result<(), AllocError
     }
 }
 
+#[cycle(nodes)]
 fn push_path(out: &mut Vec<u8>, path: &Path, places: bool) -> Result<(), AllocError> {
     out.push(b'!')?;
     for key in path.keys.as_slice() {
@@ -156,6 +160,7 @@ fn push_texts(out: &mut Vec<u8>, form: &Form) -> Result<(), AllocError> {
 }
 
 /// Appends what a form holds beside its parts, in parentheses.
+#[cycle(nodes)]
 fn push_inside(out: &mut Vec<u8>, form: &Form, places: bool) -> Result<(), AllocError> {
     match form {
         Form::Record(names) | Form::RecordSet(names) => {
@@ -196,6 +201,7 @@ fn push_inside(out: &mut Vec<u8>, form: &Form, places: bool) -> Result<(), Alloc
 }
 
 /// Appends a node, with its places behind `@` where `places`.
+#[cycle(nodes)]
 pub(crate) fn push_node(out: &mut Vec<u8>, node: &Node, places: bool) -> Result<(), AllocError> {
     out.extend_from_slice(word_of(&node.form))?;
     push_texts(out, &node.form)?;
