@@ -1,8 +1,12 @@
-//! Tests which call the public functions of the lower layers with ample memory: renaming, the instances of schemas, and
-//! proofs as flat lists. They are kept in one crate since each test is proved too, so that the lower crates are proved
-//! without them. It has no public items.
+//! Tests which call the public functions of the lower layers with ample memory: renaming, the instances of schemas, proofs as
+//! flat lists, and the reader of expressions. They are kept in one crate since each test is proved too, so that the lower crates
+//! are proved without them. It has no public items.
 #![tactic(auto)]
 
+#[cfg(test)]
+mod dump;
+#[cfg(test)]
+mod expressions;
 #[cfg(test)]
 mod flat;
 #[cfg(test)]
