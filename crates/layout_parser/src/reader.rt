@@ -1,8 +1,10 @@
-ghost use Rattle.std.specs.Prelude.{◌<◌, ◌≤◌, length};
+ghost use Rattle.std.specs.Prelude.{◌<◌, ◌≤◌, length, IfOk};
+ghost use Rattle.tla_ast.specs.Listing.{IsTokenList};
 ghost use Rattle.layout_parser.specs.Reading as spec;
 
 use crate::cursor::Cursor;
 use crate::grammar::{finished, read_chain};
+use crate::laws::ends_before_the_last;
 use crate::setting::{Around, Setting};
 use std::alloc::Global;
 use tla_ast::{Node, SynFault, Tokens};
@@ -11,7 +13,8 @@ use tla_ast::{Node, SynFault, Tokens};
 pub const MOST_NESTINGS: u64 = 200;
 
 /// Reads the expression that begins at a token of the list, from 0, of tokens whose column is over `region` alone, with `depth`
-/// nestings round it. Answers the node and the place in the list of the token after it.
+/// nestings round it. Answers the node and the place in the list of the token after it: the list goes on there, since an
+/// expression never uses the token that ends the list.
 ///
 /// The fault is the one of the least place: Expected where no rule goes on, or Unsupported in its stead at what the language has
 /// and this reader has not; Precedence at the first operator up to which a chain has no right tree; TooDeep at the token that
@@ -29,8 +32,11 @@ pub fn read_expr(
 ) -> Result<(Node, u64), SynFault>
     requires within { from < length tokens.now.list }
     requires nested { depth ≤ 200 }
-    ensures { spec.Reads result (spec.reading tokens.now.list from region depth) }
+    requires list { IsTokenList tokens.now.list }
+    ensures reading { spec.Reads result (spec.reading tokens.now.list from region depth) }
+    ensures after { IfOk result (λ r. (from < r.1) × (r.1 < length tokens.now.list)) }
 {
+    ends_before_the_last();
     let list = tokens.list.as_slice();
     let mut cursor = Cursor::new(&list[from as usize..]);
     let most = cursor.left();
