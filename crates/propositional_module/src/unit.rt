@@ -181,7 +181,8 @@ fn read_title(
 
 /// The expression at an index, and the index after it.
 fn read_expression(alloc: Global, tokens: &Tokens, at: usize) -> Result<(Node, usize), ModuleFault>
-    requires { at < length tokens.now.list }
+    requires list { IsTokenList tokens.now.list }
+    requires within { at < length tokens.now.list }
     ensures { Gives result (spec.expression tokens.now.list at) }
 {
     let (node, next) = read_expr(alloc, tokens, at as u64, 0, 0)?;
