@@ -9,6 +9,7 @@ mod cursor;
 mod except;
 mod flat;
 mod grammar;
+mod held;
 mod mark;
 mod member;
 mod operand;
