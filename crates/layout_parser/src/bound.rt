@@ -7,10 +7,11 @@ ghost use Rattle.layout_parser.specs.Reading as spec;
 ghost use Rattle.layout_parser.specs.Nests.{Nests, Flats, ended};
 
 use core_expr::Memory;
-use crate::build::{both, group, one, unary};
+use crate::build::{both, group, one, whole};
 use crate::cursor::Cursor;
 use crate::flat::Flat;
 use crate::grammar::Grammar;
+use crate::held::{Held, HeldItems};
 use crate::mark::Mark;
 use crate::setting::{Setting, Stop};
 use sqlite_items::Items;
@@ -23,9 +24,9 @@ pub enum After {
     /// A further name of the group comes, after these.
     Name(Items<Decl>),
     /// The group is whole, and another comes.
-    Group(Group),
+    Group(Held<Group>),
     /// The group is whole, and it is the last.
-    Last(Group),
+    Last(Held<Group>),
 }
 
 /// What follows the set of a group.
@@ -34,7 +35,7 @@ fn after_set(
     alloc: Global,
     cursor: &mut Cursor<'_>,
     setting: Setting,
-    group: Group,
+    group: Held<Group>,
 ) -> Result<After, SynFault>
     ensures { Reads (spec.after_set setting group cursor.old) result cursor.new }
 {
@@ -52,7 +53,7 @@ impl<
 > Grammar<F> {
     /// The set of a group of bound names.
     #[tactic(auto, unfolding(crate::specs::Reading::bound_set))]
-    fn bound_set(&self, cursor: &mut Cursor<'_>, setting: Setting, names: Items<Decl>) -> Result<Group, SynFault>
+    fn bound_set(&self, cursor: &mut Cursor<'_>, setting: Setting, names: Items<Decl>) -> Result<Held<Group>, SynFault>
         requires { Nests self.now.left (F.pre self.now.read) (F.post self.now.read) }
         ensures { Reads (spec.bound_set self.now.left (spec.nested self.now.left) setting names cursor.old) result cursor.new }
     {
@@ -61,11 +62,11 @@ impl<
     }
 
     /// One or more groups of names with a set, or one group without a set, and the `:`.
-    fn groups(&self, cursor: &mut Cursor<'_>, setting: Setting) -> Result<Items<Group>, SynFault>
+    fn groups(&self, cursor: &mut Cursor<'_>, setting: Setting) -> Result<HeldItems<Group>, SynFault>
         requires { Nests self.now.left (F.pre self.now.read) (F.post self.now.read) }
         ensures { Reads (spec.groups self.now.left (spec.nested self.now.left) setting cursor.old) result cursor.new }
     {
-        let mut groups = Items::new(self.alloc);
+        let mut groups = HeldItems::new(self.alloc);
         let mut names = Items::new(self.alloc);
         for _turn in 0..cursor.left() {
             names.push(cursor.declared(self.alloc, setting, Stop::Bound)?)?;
@@ -106,19 +107,21 @@ impl<
 
     /// A quantifier.
     #[tactic(auto, unfolding(crate::specs::Reading::quantifier))]
-    pub fn quantifier(&self, cursor: &mut Cursor<'_>, all: bool, setting: Setting) -> Result<Node, SynFault>
+    pub fn quantifier(&self, cursor: &mut Cursor<'_>, all: bool, setting: Setting) -> Result<Held<Node>, SynFault>
         requires { Nests self.now.left (F.pre self.now.read) (F.post self.now.read) }
         ensures { Reads (spec.quantifier self.now.left (spec.nested self.now.left) all setting cursor.old) result cursor.new }
     {
         let place = cursor.take();
         let groups = self.groups(cursor, setting)?;
         let body = self.part(cursor, setting)?;
-        Ok(unary(self.alloc, Form::Quant { all, groups }, body, place)?)
+        let parts = HeldItems::of(self.alloc, body)?;
+        let groups = groups.into_items();
+        Ok(whole(Form::Quant { all, groups }, parts, place))
     }
 
     /// The set of the name of a CHOOSE, and the `:`.
     #[tactic(auto, unfolding(crate::specs::Reading::domain))]
-    fn domain(&self, cursor: &mut Cursor<'_>, setting: Setting) -> Result<Option<Node>, SynFault>
+    fn domain(&self, cursor: &mut Cursor<'_>, setting: Setting) -> Result<Option<Held<Node>>, SynFault>
         requires { Nests self.now.left (F.pre self.now.read) (F.post self.now.read) }
         ensures { Reads (spec.domain self.now.left (spec.nested self.now.left) setting cursor.old) result cursor.new }
     {
@@ -133,7 +136,7 @@ impl<
 
     /// CHOOSE.
     #[tactic(auto, unfolding(crate::specs::Reading::choose))]
-    pub fn choose(&self, cursor: &mut Cursor<'_>, setting: Setting) -> Result<Node, SynFault>
+    pub fn choose(&self, cursor: &mut Cursor<'_>, setting: Setting) -> Result<Held<Node>, SynFault>
         requires { Nests self.now.left (F.pre self.now.read) (F.post self.now.read) }
         ensures { Reads (spec.choose self.now.left (spec.nested self.now.left) setting cursor.old) result cursor.new }
     {
@@ -141,7 +144,8 @@ impl<
         let bound = cursor.declared(self.alloc, setting, Stop::Bound)?;
         let set = self.domain(cursor, setting)?;
         let body = self.part(cursor, setting)?;
+        let parts = HeldItems::of(self.alloc, body)?;
         let group = group(self.alloc, one(self.alloc, bound)?, set)?;
-        Ok(unary(self.alloc, Form::Choose(group), body, place)?)
+        Ok(whole(Form::Choose(group.into_inner()), parts, place))
     }
 }

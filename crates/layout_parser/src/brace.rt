@@ -11,10 +11,11 @@ ghost use Rattle.layout_parser.specs.Nests.{Nests, Flats, ended};
 use crate::member::{Bound, element, is_whole, put_before};
 use core_expr::{Memory, Text};
 use operator_chain::Piece;
-use crate::build::{leaf, one, unary, binary};
+use crate::build::{binary, leaf, unary, whole};
 use crate::cursor::Cursor;
 use crate::flat::Flat;
 use crate::grammar::{Grammar, finished};
+use crate::held::{Held, HeldItems};
 use crate::mark::Mark;
 use crate::setting::{Around, Setting, Stop};
 use std::alloc::Global;
@@ -51,7 +52,7 @@ impl<
 > Grammar<F> {
     /// `{e : x \in S}`, after the `:`.
     #[tactic(auto, unfolding(crate::specs::Reading::image))]
-    fn image(&self, cursor: &mut Cursor<'_>, setting: Setting, value: Node) -> Result<Node, SynFault>
+    fn image(&self, cursor: &mut Cursor<'_>, setting: Setting, value: Held<Node>) -> Result<Held<Node>, SynFault>
         requires { Nests self.now.left (F.pre self.now.read) (F.post self.now.read) }
         ensures { Reads (spec.image self.now.left (spec.nested self.now.left) setting value cursor.old) result cursor.new }
     {
@@ -65,7 +66,7 @@ impl<
 
     /// `{x \in S : P}`, after the `:`.
     #[tactic(auto, unfolding(crate::specs::Reading::filter))]
-    fn filter(&self, cursor: &mut Cursor<'_>, setting: Setting, name: Text, place: Place, set: Node) -> Result<Node, SynFault>
+    fn filter(&self, cursor: &mut Cursor<'_>, setting: Setting, name: Text, place: Place, set: Held<Node>) -> Result<Held<Node>, SynFault>
         requires { Nests self.now.left (F.pre self.now.read) (F.post self.now.read) }
         ensures { Reads (spec.filter self.now.left (spec.nested self.now.left) setting name place set cursor.old) result cursor.new }
     {
@@ -77,23 +78,19 @@ impl<
 
     /// The rest of `{e, ..}` after a comma.
     #[tactic(auto, unfolding(crate::specs::Reading::elements))]
-    fn elements(&self, cursor: &mut Cursor<'_>, setting: Setting, place: Place, element: Node) -> Result<Node, SynFault>
+    fn elements(&self, cursor: &mut Cursor<'_>, setting: Setting, place: Place, element: Held<Node>) -> Result<Held<Node>, SynFault>
         requires { Nests self.now.left (F.pre self.now.read) (F.post self.now.read) }
         ensures { Reads (spec.elements self.now.left (spec.nested self.now.left) setting place element cursor.old) result cursor.new }
     {
-        let first = one(self.alloc, element)?;
+        let first = HeldItems::of(self.alloc, element)?;
         let parts = self.expressions(cursor, setting, first)?;
         cursor.expect(self.alloc, setting, Stop::Expression, Mark::CloseBrace)?;
-        Ok(Node {
-            form: Form::Enum,
-            parts,
-            place,
-        })
+        Ok(whole(Form::Enum, parts, place))
     }
 
     /// What follows the first expression in a brace.
     #[tactic(auto, unfolding(crate::specs::Reading::brace_end))]
-    fn brace_end(&self, cursor: &mut Cursor<'_>, setting: Setting, place: Place, element: Node) -> Result<Node, SynFault>
+    fn brace_end(&self, cursor: &mut Cursor<'_>, setting: Setting, place: Place, element: Held<Node>) -> Result<Held<Node>, SynFault>
         requires { Nests self.now.left (F.pre self.now.read) (F.post self.now.read) }
         ensures { Reads (spec.brace_end self.now.left (spec.nested self.now.left) setting place element cursor.old) result cursor.new }
     {
@@ -111,7 +108,7 @@ impl<
     }
 
     /// A brace that begins with `x \in S`, where it is no `{x \in S : P}`.
-    fn other_member_brace(&self, cursor: &mut Cursor<'_>, setting: Setting, place: Place, bound: Bound, set: Flat) -> Result<Node, SynFault>
+    fn other_member_brace(&self, cursor: &mut Cursor<'_>, setting: Setting, place: Place, bound: Bound, set: Flat) -> Result<Held<Node>, SynFault>
         requires nests { Nests self.now.left (F.pre self.now.read) (F.post self.now.read) }
         requires set { IsChain true set.pieces.items × AreListed set.pieces.items }
         ensures { Reads (and_then (spec.finished (spec.after_member bound.name bound.place bound.sign (set.pieces.items, ended set.fault cursor.old))) (spec.brace_end self.now.left (spec.nested self.now.left) setting place)) result cursor.new }
@@ -122,7 +119,7 @@ impl<
 
     /// A brace that begins with `x \in`.
     #[tactic(auto, unfolding(crate::specs::Reading::member_brace))]
-    fn member_brace(&self, cursor: &mut Cursor<'_>, setting: Setting, place: Place) -> Result<Node, SynFault>
+    fn member_brace(&self, cursor: &mut Cursor<'_>, setting: Setting, place: Place) -> Result<Held<Node>, SynFault>
         requires { Nests self.now.left (F.pre self.now.read) (F.post self.now.read) }
         ensures { Reads (spec.member_brace self.now.left (spec.nested self.now.left) setting place cursor.old) result cursor.new }
     {
@@ -139,21 +136,21 @@ impl<
 
     /// A brace after its first operand.
     #[tactic(auto, unfolding(crate::specs::Reading::tuple_brace_after))]
-    fn tuple_brace_after(&self, cursor: &mut Cursor<'_>, setting: Setting, place: Place, operand: Node) -> Result<Node, SynFault>
+    fn tuple_brace_after(&self, cursor: &mut Cursor<'_>, setting: Setting, place: Place, operand: Held<Node>) -> Result<Held<Node>, SynFault>
         requires { Nests self.now.left (F.pre self.now.read) (F.post self.now.read) }
         ensures { Reads (spec.tuple_brace_after self.now.left (spec.nested self.now.left) setting place operand cursor.old) result cursor.new }
     {
-        let setting = after_first(cursor, setting, &operand);
+        let setting = after_first(cursor, setting, operand.get());
         let most = cursor.left();
         let mut flat = self.inner(cursor, most, setting, false)?;
-        put_before(&mut flat.pieces, Piece::Operand(operand))?;
+        put_before(&mut flat.pieces, Piece::Operand(operand.into_inner()))?;
         let element = finished(self.alloc, flat)?;
         self.brace_end(cursor, setting, place, element)
     }
 
     /// A brace whose first token is `<<`.
     #[tactic(auto, unfolding(crate::specs::Reading::tuple_brace))]
-    fn tuple_brace(&self, cursor: &mut Cursor<'_>, setting: Setting, place: Place) -> Result<Node, SynFault>
+    fn tuple_brace(&self, cursor: &mut Cursor<'_>, setting: Setting, place: Place) -> Result<Held<Node>, SynFault>
         requires { Nests self.now.left (F.pre self.now.read) (F.post self.now.read) }
         ensures { Reads (spec.tuple_brace self.now.left (spec.nested self.now.left) setting place cursor.old) result cursor.new }
     {
@@ -163,7 +160,7 @@ impl<
         }
         match (pieces.pop_front(), pieces.is_empty()) {
             (Some(Piece::Operand(operand)), true) => {
-                self.tuple_brace_after(cursor, setting, place, operand)
+                self.tuple_brace_after(cursor, setting, place, Held::new(operand))
             }
             _ => Err(cursor.refusal(self.alloc, setting, Stop::Operand)),
         }
@@ -171,7 +168,7 @@ impl<
 
     /// What follows `{`.
     #[tactic(auto, unfolding(crate::specs::Reading::brace_from))]
-    fn brace_from(&self, cursor: &mut Cursor<'_>, setting: Setting, place: Place) -> Result<Node, SynFault>
+    fn brace_from(&self, cursor: &mut Cursor<'_>, setting: Setting, place: Place) -> Result<Held<Node>, SynFault>
         requires { Nests self.now.left (F.pre self.now.read) (F.post self.now.read) }
         ensures { Reads (spec.brace_from self.now.left (spec.nested self.now.left) setting place cursor.old) result cursor.new }
     {
@@ -190,7 +187,7 @@ impl<
 
     /// `{e, ..}`, `{x \in S : P}`, `{e : x \in S}`.
     #[tactic(auto, unfolding(crate::specs::Reading::brace))]
-    pub fn brace(&self, cursor: &mut Cursor<'_>, setting: Setting) -> Result<Node, SynFault>
+    pub fn brace(&self, cursor: &mut Cursor<'_>, setting: Setting) -> Result<Held<Node>, SynFault>
         requires { Nests self.now.left (F.pre self.now.read) (F.post self.now.read) }
         ensures { Reads (spec.brace self.now.left (spec.nested self.now.left) setting cursor.old) result cursor.new }
     {

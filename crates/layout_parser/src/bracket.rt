@@ -7,13 +7,13 @@ ghost use Rattle.layout_parser.specs.Reading as spec;
 ghost use Rattle.layout_parser.specs.Nests.{Nests, Flats, ended};
 
 use core_expr::{Memory, Text};
-use crate::build::{binary, both, leaf};
+use crate::build::{binary, both, leaf, whole};
 use crate::cursor::Cursor;
 use crate::flat::Flat;
 use crate::grammar::Grammar;
+use crate::held::{Held, HeldItems};
 use crate::mark::Mark;
 use crate::setting::{Around, Setting, Stop};
-use sqlite_items::Items;
 use std::alloc::Global;
 use tla_ast::{Form, Node, Place, SynFault};
 
@@ -21,7 +21,7 @@ impl<
     F: Fn(Global, &mut Cursor<'_>, usize, usize, Setting, bool) -> Result<Flat, Memory>,
 > Grammar<F> {
     /// One or more expressions, with commas between, after those found.
-    pub fn expressions(&self, cursor: &mut Cursor<'_>, setting: Setting, mut found: Items<Node>) -> Result<Items<Node>, SynFault>
+    pub fn expressions(&self, cursor: &mut Cursor<'_>, setting: Setting, mut found: HeldItems<Node>) -> Result<HeldItems<Node>, SynFault>
         requires { Nests self.now.left (F.pre self.now.read) (F.post self.now.read) }
         ensures { Reads (spec.expressions self.now.left (spec.nested self.now.left) setting found cursor.old) result cursor.new }
     {
@@ -36,20 +36,20 @@ impl<
 
     /// The arguments of a name.
     #[tactic(auto, unfolding(crate::specs::Reading::arguments))]
-    fn arguments(&self, cursor: &mut Cursor<'_>, setting: Setting) -> Result<Items<Node>, SynFault>
+    fn arguments(&self, cursor: &mut Cursor<'_>, setting: Setting) -> Result<HeldItems<Node>, SynFault>
         requires { Nests self.now.left (F.pre self.now.read) (F.post self.now.read) }
         ensures { Reads (spec.arguments self.now.left (spec.nested self.now.left) setting cursor.old) result cursor.new }
     {
         let inside = setting.within(Around::Other);
         cursor.opening(self.left)?;
-        let found = self.expressions(cursor, inside, Items::new(self.alloc))?;
+        let found = self.expressions(cursor, inside, HeldItems::new(self.alloc))?;
         cursor.expect(self.alloc, inside, Stop::Expression, Mark::CloseParen)?;
         Ok(found)
     }
 
     /// A name, with the arguments that follow it at once.
     #[tactic(auto, unfolding(crate::specs::Reading::named))]
-    pub fn named(&self, cursor: &mut Cursor<'_>, setting: Setting) -> Result<Node, SynFault>
+    pub fn named(&self, cursor: &mut Cursor<'_>, setting: Setting) -> Result<Held<Node>, SynFault>
         requires { Nests self.now.left (F.pre self.now.read) (F.post self.now.read) }
         ensures { Reads (spec.named self.now.left (spec.nested self.now.left) setting cursor.old) result cursor.new }
     {
@@ -59,16 +59,12 @@ impl<
             return Ok(leaf(self.alloc, Form::Name(name), place));
         }
         let parts = self.arguments(cursor, setting)?;
-        Ok(Node {
-            form: Form::Call(name),
-            parts,
-            place,
-        })
+        Ok(whole(Form::Call(name), parts, place))
     }
 
     /// An expression in parentheses.
     #[tactic(auto, unfolding(crate::specs::Reading::parenthesized))]
-    pub fn parenthesized(&self, cursor: &mut Cursor<'_>, setting: Setting) -> Result<Node, SynFault>
+    pub fn parenthesized(&self, cursor: &mut Cursor<'_>, setting: Setting) -> Result<Held<Node>, SynFault>
         requires { Nests self.now.left (F.pre self.now.read) (F.post self.now.read) }
         ensures { Reads (spec.parenthesized self.now.left (spec.nested self.now.left) setting cursor.old) result cursor.new }
     {
@@ -81,7 +77,7 @@ impl<
 
     /// A tuple in the place of a subscript.
     #[tactic(auto, unfolding(crate::specs::Reading::tuple))]
-    fn tuple(&self, cursor: &mut Cursor<'_>, setting: Setting) -> Result<Node, SynFault>
+    fn tuple(&self, cursor: &mut Cursor<'_>, setting: Setting) -> Result<Held<Node>, SynFault>
         requires { Nests self.now.left (F.pre self.now.read) (F.post self.now.read) }
         ensures { Reads (spec.tuple self.now.left (spec.nested self.now.left) setting cursor.old) result cursor.new }
     {
@@ -90,18 +86,14 @@ impl<
         if cursor.eat(inside, Mark::CloseAngle) {
             return Ok(leaf(self.alloc, Form::Tuple, place));
         }
-        let parts = self.expressions(cursor, inside, Items::new(self.alloc))?;
+        let parts = self.expressions(cursor, inside, HeldItems::new(self.alloc))?;
         cursor.expect(self.alloc, inside, Stop::Expression, Mark::CloseAngle)?;
-        Ok(Node {
-            form: Form::Tuple,
-            parts,
-            place,
-        })
+        Ok(whole(Form::Tuple, parts, place))
     }
 
     /// A subscript: an identifier, a tuple or an expression in parentheses.
     #[tactic(auto, unfolding(crate::specs::Reading::subscript))]
-    pub fn subscript(&self, cursor: &mut Cursor<'_>, setting: Setting) -> Result<Node, SynFault>
+    pub fn subscript(&self, cursor: &mut Cursor<'_>, setting: Setting) -> Result<Held<Node>, SynFault>
         requires { Nests self.now.left (F.pre self.now.read) (F.post self.now.read) }
         ensures { Reads (spec.subscript self.now.left (spec.nested self.now.left) setting cursor.old) result cursor.new }
     {
@@ -121,33 +113,25 @@ impl<
 
     /// `>>` after the items of a tuple, or `>>_` after an action.
     #[tactic(auto, unfolding(crate::specs::Reading::angle_end))]
-    fn angle_end(&self, cursor: &mut Cursor<'_>, setting: Setting, place: Place, mut parts: Items<Node>) -> Result<Node, SynFault>
+    fn angle_end(&self, cursor: &mut Cursor<'_>, setting: Setting, place: Place, mut parts: HeldItems<Node>) -> Result<Held<Node>, SynFault>
         requires { Nests self.now.left (F.pre self.now.read) (F.post self.now.read) }
         ensures { Reads (spec.angle_end self.now.left (spec.nested self.now.left) setting place parts cursor.old) result cursor.new }
     {
         let inside = setting.within(Around::Other);
         if cursor.eat(setting, Mark::CloseAngle) {
-            return Ok(Node {
-                form: Form::Tuple,
-                parts,
-                place,
-            });
+            return Ok(whole(Form::Tuple, parts, place));
         }
         if !both(cursor.sees(setting, Mark::CloseAction), parts.len() == 1) {
             return Err(cursor.refusal(self.alloc, inside, Stop::Expression));
         }
         cursor.advance();
         parts.push(self.subscript(cursor, setting)?)?;
-        Ok(Node {
-            form: Form::AngleAct,
-            parts,
-            place,
-        })
+        Ok(whole(Form::AngleAct, parts, place))
     }
 
     /// A tuple or `<<A>>_v`.
     #[tactic(auto, unfolding(crate::specs::Reading::angle))]
-    pub fn angle(&self, cursor: &mut Cursor<'_>, setting: Setting) -> Result<Node, SynFault>
+    pub fn angle(&self, cursor: &mut Cursor<'_>, setting: Setting) -> Result<Held<Node>, SynFault>
         requires { Nests self.now.left (F.pre self.now.read) (F.post self.now.read) }
         ensures { Reads (spec.angle self.now.left (spec.nested self.now.left) setting cursor.old) result cursor.new }
     {
@@ -156,13 +140,13 @@ impl<
         if cursor.eat(inside, Mark::CloseAngle) {
             return Ok(leaf(self.alloc, Form::Tuple, place));
         }
-        let parts = self.expressions(cursor, inside, Items::new(self.alloc))?;
+        let parts = self.expressions(cursor, inside, HeldItems::new(self.alloc))?;
         self.angle_end(cursor, setting, place, parts)
     }
 
     /// `WF_v(A)` and `SF_v(A)`.
     #[tactic(auto, unfolding(crate::specs::Reading::fair))]
-    pub fn fair(&self, cursor: &mut Cursor<'_>, strong: bool, setting: Setting) -> Result<Node, SynFault>
+    pub fn fair(&self, cursor: &mut Cursor<'_>, strong: bool, setting: Setting) -> Result<Held<Node>, SynFault>
         requires { Nests self.now.left (F.pre self.now.read) (F.post self.now.read) }
         ensures { Reads (spec.fair self.now.left (spec.nested self.now.left) strong setting cursor.old) result cursor.new }
     {

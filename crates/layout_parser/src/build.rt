@@ -3,6 +3,7 @@
 ghost use Rattle.std.specs.Prelude.{◌≡◌, ◌∷◌, [], ◌&&◌, ◌||◌, IfOk};
 ghost use Rattle.layout_parser.specs.Reading as spec;
 
+use crate::held::{Held, HeldItems};
 use sqlite_items::{Boxed, Items};
 use std::alloc::{AllocError, Global};
 use tla_ast::{Decl, Form, Group, Node, Place};
@@ -19,15 +20,22 @@ pub fn either(a: bool, b: bool) -> bool
     a || b
 }
 
+/// A node with these parts.
+pub fn whole(form: Form, parts: HeldItems<Node>, place: Place) -> Held<Node>
+    ensures { result ≡ spec.node form parts place }
+{
+    Held::new(Node {
+        form,
+        parts: parts.into_items(),
+        place,
+    })
+}
+
 /// A node without parts.
-pub fn leaf(alloc: Global, form: Form, place: Place) -> Node
+pub fn leaf(alloc: Global, form: Form, place: Place) -> Held<Node>
     ensures { result ≡ spec.node form [] place }
 {
-    Node {
-        form,
-        parts: Items::new(alloc),
-        place,
-    }
+    whole(form, HeldItems::new(alloc), place)
 }
 
 /// One item.
@@ -40,64 +48,64 @@ pub fn one<T: Drop>(alloc: Global, item: T) -> Result<Items<T>, AllocError>
 }
 
 /// A node with one part.
-pub fn unary(alloc: Global, form: Form, part: Node, place: Place) -> Result<Node, AllocError>
+pub fn unary(alloc: Global, form: Form, part: Held<Node>, place: Place) -> Result<Held<Node>, AllocError>
     ensures { IfOk result (λ n. n ≡ spec.node form (part ∷ []) place) }
 {
-    let parts = one(alloc, part)?;
-    Ok(Node { form, parts, place })
+    let parts = HeldItems::of(alloc, part)?;
+    Ok(whole(form, parts, place))
 }
 
 /// A node with two parts.
 pub fn binary(
     alloc: Global,
     form: Form,
-    left: Node,
-    right: Node,
+    left: Held<Node>,
+    right: Held<Node>,
     place: Place,
-) -> Result<Node, AllocError>
+) -> Result<Held<Node>, AllocError>
     ensures { IfOk result (λ n. n ≡ spec.node form (left ∷ right ∷ []) place) }
 {
-    let mut parts = one(alloc, left)?;
+    let mut parts = HeldItems::of(alloc, left)?;
     parts.push(right)?;
-    Ok(Node { form, parts, place })
+    Ok(whole(form, parts, place))
 }
 
 /// A node with three parts.
 pub fn ternary(
     alloc: Global,
     form: Form,
-    first: Node,
-    second: Node,
-    third: Node,
+    first: Held<Node>,
+    second: Held<Node>,
+    third: Held<Node>,
     place: Place,
-) -> Result<Node, AllocError>
+) -> Result<Held<Node>, AllocError>
     ensures { IfOk result (λ n. n ≡ spec.node form (first ∷ second ∷ third ∷ []) place) }
 {
-    let mut parts = one(alloc, first)?;
+    let mut parts = HeldItems::of(alloc, first)?;
     parts.push(second)?;
     parts.push(third)?;
-    Ok(Node { form, parts, place })
+    Ok(whole(form, parts, place))
 }
 
 /// Bound names with their set, if they have one.
 pub fn group(
     alloc: Global,
     names: Items<Decl>,
-    domain: Option<Node>,
-) -> Result<Group, AllocError>
+    domain: Option<Held<Node>>,
+) -> Result<Held<Group>, AllocError>
     ensures { IfOk result (λ g. g ≡ spec.group names domain) }
 {
     match domain {
-        None => Ok(Group {
+        None => Ok(Held::new(Group {
             names,
             domain: None,
-        }),
+        })),
         Some(set) => {
-            let set = Boxed::new(alloc, set)?;
-            Ok(Group {
+            let set = Boxed::new(alloc, set.into_inner())?;
+            Ok(Held::new(Group {
                 names,
                 domain: Some(set),
-            })
+            }))
         }
     }
 }

@@ -7,13 +7,13 @@ ghost use Rattle.layout_parser.specs.Reading as spec;
 ghost use Rattle.layout_parser.specs.Nests.{Nests, Flats, ended};
 
 use core_expr::Memory;
-use crate::build::{either, one};
+use crate::build::{either, whole};
 use crate::cursor::Cursor;
 use crate::flat::Flat;
 use crate::grammar::Grammar;
+use crate::held::{Held, HeldItems};
 use crate::mark::Mark;
 use crate::setting::{Setting, Stop};
-use sqlite_items::Items;
 use operator_chain::{Ending, Piece};
 use std::alloc::{AllocError, Global};
 use std::collections::VecDeque;
@@ -22,22 +22,22 @@ use tla_ast::{Form, Key, Node, Path, Place, SynFault};
 /// The paths of updates, and the function with the new values.
 #[derive(Drop)]
 pub struct Updates {
-    pub paths: Items<Path>,
-    pub parts: Items<Node>,
+    pub paths: HeldItems<Path>,
+    pub parts: HeldItems<Node>,
 }
 
 impl Updates {
-    fn new(alloc: Global, function: Node) -> Result<Updates, AllocError>
+    fn new(alloc: Global, function: Held<Node>) -> Result<Updates, AllocError>
         ensures { IfOk result (λ u. u ≡ spec.no_updates function) }
     {
-        let parts = one(alloc, function)?;
+        let parts = HeldItems::of(alloc, function)?;
         Ok(Updates {
-            paths: Items::new(alloc),
+            paths: HeldItems::new(alloc),
             parts,
         })
     }
 
-    fn push(&mut self, path: Path, value: Node) -> Result<(), AllocError>
+    fn push(&mut self, path: Held<Path>, value: Held<Node>) -> Result<(), AllocError>
         ensures { OnOk result (self.new ≡ spec.with_update self.old path value) }
     {
         self.paths.push(path)?;
@@ -52,12 +52,12 @@ fn key_of(
     cursor: &Cursor<'_>,
     setting: Setting,
     ending: Ending,
-) -> Result<Key, SynFault>
+) -> Result<Held<Key>, SynFault>
     ensures { Reads (spec.by_ending setting ending cursor.now) result cursor.now }
 {
     match ending {
-        Ending::Index(argument) => Ok(Key::At(argument)),
-        Ending::Field(name) => Ok(Key::Field(name)),
+        Ending::Index(argument) => Ok(Held::new(Key::At(argument))),
+        Ending::Field(name) => Ok(Held::new(Key::Field(name))),
         Ending::Prime => Err(cursor.refusal(alloc, setting, Stop::Other)),
     }
 }
@@ -68,7 +68,7 @@ fn key_in(
     cursor: &Cursor<'_>,
     setting: Setting,
     mut pieces: VecDeque<Piece>,
-) -> Result<Key, SynFault>
+) -> Result<Held<Key>, SynFault>
     ensures { Reads (spec.by_key setting (pieces.items, Ok cursor.now)) result cursor.now }
 {
     match (pieces.pop_front(), pieces.is_empty()) {
@@ -82,7 +82,7 @@ impl<
 > Grammar<F> {
     /// One key of a path.
     #[tactic(auto, unfolding(crate::specs::Reading::key_of))]
-    fn key(&self, cursor: &mut Cursor<'_>, setting: Setting) -> Result<Key, SynFault>
+    fn key(&self, cursor: &mut Cursor<'_>, setting: Setting) -> Result<Held<Key>, SynFault>
         requires { Nests self.now.left (F.pre self.now.read) (F.post self.now.read) }
         ensures { Reads (spec.key_of self.now.left (spec.nested self.now.left) setting cursor.old) result cursor.new }
     {
@@ -100,11 +100,11 @@ impl<
     }
 
     /// One or more keys.
-    fn keys(&self, cursor: &mut Cursor<'_>, setting: Setting) -> Result<Items<Key>, SynFault>
+    fn keys(&self, cursor: &mut Cursor<'_>, setting: Setting) -> Result<HeldItems<Key>, SynFault>
         requires { Nests self.now.left (F.pre self.now.read) (F.post self.now.read) }
         ensures { Reads (spec.keys self.now.left (spec.nested self.now.left) setting cursor.old) result cursor.new }
     {
-        let mut found = Items::new(self.alloc);
+        let mut found = HeldItems::new(self.alloc);
         for _turn in 0..cursor.left() {
             found.push(self.key(cursor, setting)?)?;
             if !either(
@@ -119,7 +119,7 @@ impl<
 
     /// One update: its path and the new value, in which `@` has a meaning.
     #[tactic(auto, unfolding(crate::specs::Reading::update))]
-    fn update(&self, cursor: &mut Cursor<'_>, setting: Setting) -> Result<(Path, Node), SynFault>
+    fn update(&self, cursor: &mut Cursor<'_>, setting: Setting) -> Result<(Held<Path>, Held<Node>), SynFault>
         requires { Nests self.now.left (F.pre self.now.read) (F.post self.now.read) }
         ensures { Reads (spec.update self.now.left (spec.nested self.now.left) setting cursor.old) result cursor.new }
     {
@@ -127,11 +127,14 @@ impl<
         let keys = self.keys(cursor, setting)?;
         cursor.expect(self.alloc, setting, Stop::Other, Mark::Equal)?;
         let value = self.part(cursor, setting.with_at())?;
-        Ok((Path { keys }, value))
+        let path = Path {
+            keys: keys.into_items(),
+        };
+        Ok((Held::new(path), value))
     }
 
     /// One or more updates, with commas between.
-    fn updates(&self, cursor: &mut Cursor<'_>, setting: Setting, function: Node) -> Result<Updates, SynFault>
+    fn updates(&self, cursor: &mut Cursor<'_>, setting: Setting, function: Held<Node>) -> Result<Updates, SynFault>
         requires { Nests self.now.left (F.pre self.now.read) (F.post self.now.read) }
         ensures { Reads (spec.updates self.now.left (spec.nested self.now.left) setting function cursor.old) result cursor.new }
     {
@@ -148,16 +151,12 @@ impl<
 
     /// `[f EXCEPT !path = e, ..]`, after the EXCEPT.
     #[tactic(auto, unfolding(crate::specs::Reading::except))]
-    pub fn except(&self, cursor: &mut Cursor<'_>, setting: Setting, place: Place, function: Node) -> Result<Node, SynFault>
+    pub fn except(&self, cursor: &mut Cursor<'_>, setting: Setting, place: Place, function: Held<Node>) -> Result<Held<Node>, SynFault>
         requires { Nests self.now.left (F.pre self.now.read) (F.post self.now.read) }
         ensures { Reads (spec.except self.now.left (spec.nested self.now.left) setting place function cursor.old) result cursor.new }
     {
         let Updates { paths, parts } = self.updates(cursor, setting, function)?;
         cursor.expect(self.alloc, setting, Stop::Expression, Mark::CloseSquare)?;
-        Ok(Node {
-            form: Form::Except(paths),
-            parts,
-            place,
-        })
+        Ok(whole(Form::Except(paths.into_items()), parts, place))
     }
 }

@@ -11,9 +11,10 @@ ghost use Rattle.layout_parser.specs.Nests.{Nests, Flats, Steps, ended};
 
 use crate::cursor::Cursor;
 use crate::flat::{Flat, Step};
+use crate::held::Held;
 use crate::setting::{Setting, Stop};
 use core_expr::Memory;
-use operator_chain::{ChainFault, Piece, discard, tree};
+use operator_chain::{ChainFault, Piece, tree};
 use std::alloc::Global;
 use std::collections::VecDeque;
 use tla_ast::{Kind, Node, SynFault};
@@ -39,14 +40,14 @@ pub fn told(fault: SynFault) -> Result<SynFault, Memory>
 
 /// The node of a chain, or the fault of its operators, or else that at which it breaks off.
 #[tactic(auto, unfolding(crate::specs::Reading::finished))]
-pub fn finished(alloc: Global, flat: Flat) -> Result<Node, SynFault>
+pub fn finished(alloc: Global, flat: Flat) -> Result<Held<Node>, SynFault>
     requires chain { IsChain true flat.pieces.items }
     requires listed { AreListed flat.pieces.items }
     ensures { (rest : Tokens) → Reads (spec.finished (flat.pieces.items, ended flat.fault rest)) result rest }
 {
     let Flat { pieces, fault } = flat;
     let node = match tree(alloc, pieces) {
-        Ok(node) => node,
+        Ok(node) => Held::new(node),
         Err(ChainFault::Memory) => return Err(SynFault::Memory),
         Err(ChainFault::Precedence(place)) => {
             return Err(SynFault::At {
@@ -57,10 +58,7 @@ pub fn finished(alloc: Global, flat: Flat) -> Result<Node, SynFault>
     };
     match fault {
         None => Ok(node),
-        Some(fault) => {
-            discard(node);
-            Err(fault)
-        }
+        Some(fault) => Err(fault),
     }
 }
 
@@ -97,7 +95,7 @@ impl<
     }
 
     /// An expression in a further nesting.
-    pub fn part(&self, cursor: &mut Cursor<'_>, setting: Setting) -> Result<Node, SynFault>
+    pub fn part(&self, cursor: &mut Cursor<'_>, setting: Setting) -> Result<Held<Node>, SynFault>
         requires { Nests self.now.left (F.pre self.now.read) (F.post self.now.read) }
         ensures { Reads (spec.part self.now.left (spec.nested self.now.left) setting cursor.old) result cursor.new }
     {

@@ -13,6 +13,7 @@ use crate::build::leaf;
 use crate::cursor::Cursor;
 use crate::flat::Flat;
 use crate::grammar::{Grammar, finished};
+use crate::held::Held;
 use crate::mark::Mark;
 use crate::setting::Setting;
 use core_expr::{Memory, Text};
@@ -67,7 +68,7 @@ impl Bound {
 }
 
 /// The expression that begins with a name and `\in` and goes on with this chain.
-pub fn element(alloc: Global, bound: Bound, set: Flat) -> Result<Node, SynFault>
+pub fn element(alloc: Global, bound: Bound, set: Flat) -> Result<Held<Node>, SynFault>
     requires chain { IsChain true set.pieces.items }
     requires listed { AreListed set.pieces.items }
     ensures { (rest : Tokens) → Reads (spec.finished (spec.after_member bound.name bound.place bound.sign (set.pieces.items, ended set.fault rest))) result rest }
@@ -75,7 +76,8 @@ pub fn element(alloc: Global, bound: Bound, set: Flat) -> Result<Node, SynFault>
     let Flat { mut pieces, fault } = set;
     let Bound { name, place, sign } = bound;
     put_before(&mut pieces, member_at(alloc, sign)?)?;
-    put_before(&mut pieces, Piece::Operand(leaf(alloc, Form::Name(name), place)))?;
+    let name = leaf(alloc, Form::Name(name), place);
+    put_before(&mut pieces, Piece::Operand(name.into_inner()))?;
     finished(alloc, Flat { pieces, fault })
 }
 

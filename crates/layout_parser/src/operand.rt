@@ -7,19 +7,19 @@ ghost use Rattle.layout_parser.specs.Reading as spec;
 ghost use Rattle.layout_parser.specs.Nests.{Nests, Flats, ended};
 
 use core_expr::{Memory, Text};
-use crate::build::{both, leaf};
+use crate::build::{both, leaf, whole};
 use crate::cursor::Cursor;
 use crate::flat::Flat;
 use crate::grammar::Grammar;
+use crate::held::{Held, HeldItems};
 use crate::mark::{Mark, same_mark};
 use crate::setting::{Setting, Stop};
-use sqlite_items::Items;
 use std::alloc::Global;
 use tla_ast::{Form, Node, SynFault};
 
 /// A word that is an operand by itself.
 #[tactic(auto, unfolding(crate::specs::Reading::value))]
-fn value(alloc: Global, cursor: &mut Cursor<'_>) -> Result<Node, SynFault>
+fn value(alloc: Global, cursor: &mut Cursor<'_>) -> Result<Held<Node>, SynFault>
     ensures { Reads (spec.value cursor.old) result cursor.new }
 {
     let name = Text::of(alloc, cursor.spelling())?;
@@ -29,7 +29,7 @@ fn value(alloc: Global, cursor: &mut Cursor<'_>) -> Result<Node, SynFault>
 
 /// A number or a string.
 #[tactic(auto, unfolding(crate::specs::Reading::literal))]
-fn literal(alloc: Global, cursor: &mut Cursor<'_>) -> Result<Node, SynFault>
+fn literal(alloc: Global, cursor: &mut Cursor<'_>) -> Result<Held<Node>, SynFault>
     ensures { Reads (spec.literal cursor.old) result cursor.new }
 {
     let form = cursor.literal(alloc)?;
@@ -41,11 +41,11 @@ impl<
     F: Fn(Global, &mut Cursor<'_>, usize, usize, Setting, bool) -> Result<Flat, Memory>,
 > Grammar<F> {
     /// The items of a junction list from a bullet on.
-    fn items(&self, cursor: &mut Cursor<'_>, setting: Setting, mark: Mark) -> Result<Items<Node>, SynFault>
+    fn items(&self, cursor: &mut Cursor<'_>, setting: Setting, mark: Mark) -> Result<HeldItems<Node>, SynFault>
         requires { Nests self.now.left (F.pre self.now.read) (F.post self.now.read) }
         ensures { Reads (spec.items self.now.left (spec.nested self.now.left) setting mark cursor.old) result cursor.new }
     {
-        let mut found = Items::new(self.alloc);
+        let mut found = HeldItems::new(self.alloc);
         for _turn in 0..cursor.left() {
             cursor.advance();
             found.push(self.part(cursor, setting)?)?;
@@ -61,22 +61,18 @@ impl<
 
     /// A junction list.
     #[tactic(auto, unfolding(crate::specs::Reading::junction))]
-    fn junction(&self, cursor: &mut Cursor<'_>, all: bool, mark: Mark, setting: Setting) -> Result<Node, SynFault>
+    fn junction(&self, cursor: &mut Cursor<'_>, all: bool, mark: Mark, setting: Setting) -> Result<Held<Node>, SynFault>
         requires { Nests self.now.left (F.pre self.now.read) (F.post self.now.read) }
         ensures { Reads (spec.junction self.now.left (spec.nested self.now.left) all mark setting cursor.old) result cursor.new }
     {
         let place = cursor.place();
         let parts = self.items(cursor, setting.right_of(place.column), mark)?;
-        Ok(Node {
-            form: Form::Junction(all),
-            parts,
-            place,
-        })
+        Ok(whole(Form::Junction(all), parts, place))
     }
 
     /// `@`, which is an operand in a new value of an EXCEPT alone.
     #[tactic(auto, unfolding(crate::specs::Reading::at))]
-    fn at(&self, cursor: &mut Cursor<'_>, setting: Setting) -> Result<Node, SynFault>
+    fn at(&self, cursor: &mut Cursor<'_>, setting: Setting) -> Result<Held<Node>, SynFault>
         requires { Nests self.now.left (F.pre self.now.read) (F.post self.now.read) }
         ensures { Reads (spec.at self.now.left (spec.nested self.now.left) setting cursor.old) result cursor.new }
     {
@@ -88,7 +84,7 @@ impl<
     }
 
     /// An operand by the mark of its first token.
-    fn operand_by(&self, cursor: &mut Cursor<'_>, setting: Setting) -> Result<Node, SynFault>
+    fn operand_by(&self, cursor: &mut Cursor<'_>, setting: Setting) -> Result<Held<Node>, SynFault>
         requires { Nests self.now.left (F.pre self.now.read) (F.post self.now.read) }
         ensures { Reads (spec.operand_by self.now.left (spec.nested self.now.left) setting (input.mark cursor.old) cursor.old) result cursor.new }
     {
@@ -118,7 +114,7 @@ impl<
 
     /// An operand.
     #[tactic(auto, unfolding(crate::specs::Reading::operand))]
-    pub fn operand(&self, cursor: &mut Cursor<'_>, setting: Setting) -> Result<Node, SynFault>
+    pub fn operand(&self, cursor: &mut Cursor<'_>, setting: Setting) -> Result<Held<Node>, SynFault>
         requires { Nests self.now.left (F.pre self.now.read) (F.post self.now.read) }
         ensures { Reads (spec.operand self.now.left (spec.nested self.now.left) setting cursor.old) result cursor.new }
     {

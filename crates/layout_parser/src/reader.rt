@@ -49,5 +49,5 @@ pub fn read_expr(
     let flat = read_chain(alloc, &mut cursor, left, most, setting, true)?;
     let node = finished(alloc, flat)?;
     let after = list.len().saturating_sub(cursor.left());
-    Ok((node, after as u64))
+    Ok((node.into_inner(), after as u64))
 }

@@ -10,10 +10,11 @@ ghost use Rattle.layout_parser.specs.Nests.{Nests, Flats, ended};
 
 use crate::member::{Bound, element, is_whole};
 use core_expr::{Memory, Text};
-use crate::build::{binary, leaf};
+use crate::build::{binary, leaf, whole};
 use crate::cursor::Cursor;
 use crate::flat::Flat;
 use crate::grammar::{Grammar, finished};
+use crate::held::{Held, HeldItems};
 use crate::mark::Mark;
 use crate::setting::{Around, Setting, Stop};
 use sqlite_items::Items;
@@ -24,7 +25,7 @@ use tla_ast::{Decl, Form, Node, Place, SynFault};
 #[derive(Drop)]
 pub struct Fields {
     pub names: Items<Text>,
-    pub parts: Items<Node>,
+    pub parts: HeldItems<Node>,
 }
 
 impl Fields {
@@ -33,11 +34,11 @@ impl Fields {
     {
         Fields {
             names: Items::new(alloc),
-            parts: Items::new(alloc),
+            parts: HeldItems::new(alloc),
         }
     }
 
-    fn push(&mut self, alloc: Global, field: Decl, value: Node) -> Result<(), Memory>
+    fn push(&mut self, alloc: Global, field: Decl, value: Held<Node>) -> Result<(), Memory>
         ensures { OnOk result (self.new ≡ spec.with_field self.old field value) }
     {
         let name = Text::of(alloc, field.name.bytes())?;
@@ -71,37 +72,29 @@ impl<
 
     /// `[h |-> e, ..]`, after the `[`.
     #[tactic(auto, unfolding(crate::specs::Reading::record_of))]
-    fn record_of(&self, cursor: &mut Cursor<'_>, setting: Setting, place: Place) -> Result<Node, SynFault>
+    fn record_of(&self, cursor: &mut Cursor<'_>, setting: Setting, place: Place) -> Result<Held<Node>, SynFault>
         requires { Nests self.now.left (F.pre self.now.read) (F.post self.now.read) }
         ensures { Reads (spec.record_of self.now.left (spec.nested self.now.left) setting place cursor.old) result cursor.new }
     {
         let Fields { names, parts } = self.fields(cursor, setting, Mark::Maps)?;
         cursor.expect(self.alloc, setting, Stop::Expression, Mark::CloseSquare)?;
-        Ok(Node {
-            form: Form::Record(names),
-            parts,
-            place,
-        })
+        Ok(whole(Form::Record(names), parts, place))
     }
 
     /// `[h : S, ..]`, after the `[`.
     #[tactic(auto, unfolding(crate::specs::Reading::record_set))]
-    fn record_set(&self, cursor: &mut Cursor<'_>, setting: Setting, place: Place) -> Result<Node, SynFault>
+    fn record_set(&self, cursor: &mut Cursor<'_>, setting: Setting, place: Place) -> Result<Held<Node>, SynFault>
         requires { Nests self.now.left (F.pre self.now.read) (F.post self.now.read) }
         ensures { Reads (spec.record_set self.now.left (spec.nested self.now.left) setting place cursor.old) result cursor.new }
     {
         let Fields { names, parts } = self.fields(cursor, setting, Mark::Colon)?;
         cursor.expect(self.alloc, setting, Stop::Expression, Mark::CloseSquare)?;
-        Ok(Node {
-            form: Form::RecordSet(names),
-            parts,
-            place,
-        })
+        Ok(whole(Form::RecordSet(names), parts, place))
     }
 
     /// `[S -> T]`, after the `->`.
     #[tactic(auto, unfolding(crate::specs::Reading::function_set))]
-    fn function_set(&self, cursor: &mut Cursor<'_>, setting: Setting, place: Place, domain: Node) -> Result<Node, SynFault>
+    fn function_set(&self, cursor: &mut Cursor<'_>, setting: Setting, place: Place, domain: Held<Node>) -> Result<Held<Node>, SynFault>
         requires { Nests self.now.left (F.pre self.now.read) (F.post self.now.read) }
         ensures { Reads (spec.function_set self.now.left (spec.nested self.now.left) setting place domain cursor.old) result cursor.new }
     {
@@ -112,7 +105,7 @@ impl<
 
     /// What follows the first expression in a square bracket.
     #[tactic(auto, unfolding(crate::specs::Reading::square_end))]
-    fn square_end(&self, cursor: &mut Cursor<'_>, setting: Setting, place: Place, first: Node) -> Result<Node, SynFault>
+    fn square_end(&self, cursor: &mut Cursor<'_>, setting: Setting, place: Place, first: Held<Node>) -> Result<Held<Node>, SynFault>
         requires { Nests self.now.left (F.pre self.now.read) (F.post self.now.read) }
         ensures { Reads (spec.square_end self.now.left (spec.nested self.now.left) setting place first cursor.old) result cursor.new }
     {
@@ -131,7 +124,7 @@ impl<
 
     /// `[x \in S |-> e]`, after the `|->`.
     #[tactic(auto, unfolding(crate::specs::Reading::function))]
-    fn function(&self, cursor: &mut Cursor<'_>, setting: Setting, name: Text, place: Place, set: Node) -> Result<Node, SynFault>
+    fn function(&self, cursor: &mut Cursor<'_>, setting: Setting, name: Text, place: Place, set: Held<Node>) -> Result<Held<Node>, SynFault>
         requires { Nests self.now.left (F.pre self.now.read) (F.post self.now.read) }
         ensures { Reads (spec.function self.now.left (spec.nested self.now.left) setting name place set cursor.old) result cursor.new }
     {
@@ -141,7 +134,7 @@ impl<
     }
 
     /// A bracket that begins with `x \in S`, where it is no `[x \in S |-> e]`.
-    fn other_member_square(&self, cursor: &mut Cursor<'_>, setting: Setting, place: Place, bound: Bound, set: Flat) -> Result<Node, SynFault>
+    fn other_member_square(&self, cursor: &mut Cursor<'_>, setting: Setting, place: Place, bound: Bound, set: Flat) -> Result<Held<Node>, SynFault>
         requires nests { Nests self.now.left (F.pre self.now.read) (F.post self.now.read) }
         requires set { IsChain true set.pieces.items × AreListed set.pieces.items }
         ensures { Reads (and_then (spec.finished (spec.after_member bound.name bound.place bound.sign (set.pieces.items, ended set.fault cursor.old))) (spec.square_end self.now.left (spec.nested self.now.left) setting place)) result cursor.new }
@@ -152,7 +145,7 @@ impl<
 
     /// A square bracket that begins with `x \in`.
     #[tactic(auto, unfolding(crate::specs::Reading::member_square))]
-    fn member_square(&self, cursor: &mut Cursor<'_>, setting: Setting, place: Place) -> Result<Node, SynFault>
+    fn member_square(&self, cursor: &mut Cursor<'_>, setting: Setting, place: Place) -> Result<Held<Node>, SynFault>
         requires { Nests self.now.left (F.pre self.now.read) (F.post self.now.read) }
         ensures { Reads (spec.member_square self.now.left (spec.nested self.now.left) setting place cursor.old) result cursor.new }
     {
@@ -169,7 +162,7 @@ impl<
 
     /// What follows `[` where that is a name.
     #[tactic(auto, unfolding(crate::specs::Reading::square_name))]
-    fn square_name(&self, cursor: &mut Cursor<'_>, setting: Setting, place: Place) -> Result<Node, SynFault>
+    fn square_name(&self, cursor: &mut Cursor<'_>, setting: Setting, place: Place) -> Result<Held<Node>, SynFault>
         requires { Nests self.now.left (F.pre self.now.read) (F.post self.now.read) }
         ensures { Reads (spec.square_name self.now.left (spec.nested self.now.left) setting place cursor.old) result cursor.new }
     {
@@ -188,7 +181,7 @@ impl<
 
     /// What follows `[`.
     #[tactic(auto, unfolding(crate::specs::Reading::square_from))]
-    fn square_from(&self, cursor: &mut Cursor<'_>, setting: Setting, place: Place) -> Result<Node, SynFault>
+    fn square_from(&self, cursor: &mut Cursor<'_>, setting: Setting, place: Place) -> Result<Held<Node>, SynFault>
         requires { Nests self.now.left (F.pre self.now.read) (F.post self.now.read) }
         ensures { Reads (spec.square_from self.now.left (spec.nested self.now.left) setting place cursor.old) result cursor.new }
     {
@@ -201,7 +194,7 @@ impl<
 
     /// Functions, records, their sets, EXCEPT and `[A]_v`.
     #[tactic(auto, unfolding(crate::specs::Reading::square))]
-    pub fn square(&self, cursor: &mut Cursor<'_>, setting: Setting) -> Result<Node, SynFault>
+    pub fn square(&self, cursor: &mut Cursor<'_>, setting: Setting) -> Result<Held<Node>, SynFault>
         requires { Nests self.now.left (F.pre self.now.read) (F.post self.now.read) }
         ensures { Reads (spec.square self.now.left (spec.nested self.now.left) setting cursor.old) result cursor.new }
     {

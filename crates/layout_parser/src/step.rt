@@ -9,6 +9,7 @@ ghost use Rattle.layout_parser.specs.Nests.{Nests, Flats, Steps};
 use crate::cursor::Cursor;
 use crate::flat::{Flat, Step};
 use crate::grammar::{Grammar, told};
+use crate::held::Held;
 use crate::mark::Mark;
 use crate::setting::{Around, Setting, Stop};
 use core_expr::{Memory, Text};
@@ -85,7 +86,7 @@ impl<
 > Grammar<F> {
     /// The argument of `f[e]`.
     #[tactic(auto, unfolding(crate::specs::Reading::index))]
-    fn index(&self, cursor: &mut Cursor<'_>, setting: Setting) -> Result<Node, SynFault>
+    fn index(&self, cursor: &mut Cursor<'_>, setting: Setting) -> Result<Held<Node>, SynFault>
         requires { Nests self.now.left (F.pre self.now.read) (F.post self.now.read) }
         ensures { Reads (spec.index self.now.left (spec.nested self.now.left) setting cursor.old) result cursor.new }
     {
@@ -103,7 +104,7 @@ impl<
     {
         let place = cursor.place();
         match self.index(cursor, setting) {
-            Ok(argument) => Ok(Step::More(index_at(argument, place), false)),
+            Ok(argument) => Ok(Step::More(index_at(argument.into_inner(), place), false)),
             Err(fault) => {
                 let fault = told(fault)?;
                 Ok(Step::Broken(Some(index_at(plain(self.alloc), place)), fault))
@@ -122,7 +123,7 @@ impl<
             return Ok(Step::More(Piece::Prefix(operator), true));
         }
         match self.operand(cursor, setting) {
-            Ok(operand) => Ok(Step::More(Piece::Operand(operand), false)),
+            Ok(operand) => Ok(Step::More(Piece::Operand(operand.into_inner()), false)),
             Err(fault) => {
                 let fault = told(fault)?;
                 Ok(Step::Broken(None, fault))

@@ -7,10 +7,11 @@ ghost use Rattle.layout_parser.specs.Reading as spec;
 ghost use Rattle.layout_parser.specs.Nests.{Nests, Flats, ended};
 
 use core_expr::Memory;
-use crate::build::{ternary, unary};
+use crate::build::{ternary, whole};
 use crate::cursor::Cursor;
 use crate::flat::Flat;
 use crate::grammar::Grammar;
+use crate::held::{Held, HeldItems};
 use crate::mark::Mark;
 use crate::setting::{Around, Setting, Stop};
 use sqlite_items::{Boxed, Items};
@@ -20,7 +21,7 @@ use tla_ast::{Decl, Def, Form, Node, SynFault};
 /// The arms of a CASE: guard and value for each, and last the value of OTHER where there is one.
 #[derive(Drop)]
 pub struct Arms {
-    pub parts: Items<Node>,
+    pub parts: HeldItems<Node>,
     pub other: bool,
 }
 
@@ -47,7 +48,7 @@ impl<
 > Grammar<F> {
     /// IF.
     #[tactic(auto, unfolding(crate::specs::Reading::conditional))]
-    pub fn conditional(&self, cursor: &mut Cursor<'_>, setting: Setting) -> Result<Node, SynFault>
+    pub fn conditional(&self, cursor: &mut Cursor<'_>, setting: Setting) -> Result<Held<Node>, SynFault>
         requires { Nests self.now.left (F.pre self.now.read) (F.post self.now.read) }
         ensures { Reads (spec.conditional self.now.left (spec.nested self.now.left) setting cursor.old) result cursor.new }
     {
@@ -62,7 +63,7 @@ impl<
 
     /// One arm of a CASE: its guard and its value.
     #[tactic(auto, unfolding(crate::specs::Reading::arm))]
-    fn arm(&self, cursor: &mut Cursor<'_>, setting: Setting) -> Result<(Node, Node), SynFault>
+    fn arm(&self, cursor: &mut Cursor<'_>, setting: Setting) -> Result<(Held<Node>, Held<Node>), SynFault>
         requires { Nests self.now.left (F.pre self.now.read) (F.post self.now.read) }
         ensures { Reads (spec.arm self.now.left (spec.nested self.now.left) setting cursor.old) result cursor.new }
     {
@@ -74,7 +75,7 @@ impl<
 
     /// The value of OTHER, after that word.
     #[tactic(auto, unfolding(crate::specs::Reading::other_arm))]
-    fn other_arm(&self, cursor: &mut Cursor<'_>, setting: Setting, parts: Items<Node>) -> Result<Arms, SynFault>
+    fn other_arm(&self, cursor: &mut Cursor<'_>, setting: Setting, parts: HeldItems<Node>) -> Result<Arms, SynFault>
         requires { Nests self.now.left (F.pre self.now.read) (F.post self.now.read) }
         ensures { Reads (spec.other_arm self.now.left (spec.nested self.now.left) setting parts cursor.old) result cursor.new }
     {
@@ -90,7 +91,7 @@ impl<
         requires { Nests self.now.left (F.pre self.now.read) (F.post self.now.read) }
         ensures { Reads (spec.arms self.now.left (spec.nested self.now.left) setting cursor.old) result cursor.new }
     {
-        let mut parts = Items::new(self.alloc);
+        let mut parts = HeldItems::new(self.alloc);
         for _turn in 0..cursor.left() {
             let (guard, value) = self.arm(cursor, setting)?;
             parts.push(guard)?;
@@ -110,17 +111,13 @@ impl<
 
     /// CASE.
     #[tactic(auto, unfolding(crate::specs::Reading::cases))]
-    pub fn cases(&self, cursor: &mut Cursor<'_>, setting: Setting) -> Result<Node, SynFault>
+    pub fn cases(&self, cursor: &mut Cursor<'_>, setting: Setting) -> Result<Held<Node>, SynFault>
         requires { Nests self.now.left (F.pre self.now.read) (F.post self.now.read) }
         ensures { Reads (spec.cases self.now.left (spec.nested self.now.left) setting cursor.old) result cursor.new }
     {
         let place = cursor.take();
         let Arms { parts, other } = self.arms(cursor, setting)?;
-        Ok(Node {
-            form: Form::Case { other },
-            parts,
-            place,
-        })
+        Ok(whole(Form::Case { other }, parts, place))
     }
 
     /// The parameters of a definition in parentheses.
@@ -153,7 +150,7 @@ impl<
 
     /// A definition.
     #[tactic(auto, unfolding(crate::specs::Reading::definition))]
-    fn definition(&self, cursor: &mut Cursor<'_>, setting: Setting) -> Result<Def, SynFault>
+    fn definition(&self, cursor: &mut Cursor<'_>, setting: Setting) -> Result<Held<Def>, SynFault>
         requires { Nests self.now.left (F.pre self.now.read) (F.post self.now.read) }
         ensures { Reads (spec.definition self.now.left (spec.nested self.now.left) setting cursor.old) result cursor.new }
     {
@@ -164,21 +161,21 @@ impl<
         } = cursor.declared(self.alloc, setting, Stop::Other)?;
         let params = self.head(cursor, setting)?;
         let body = self.part(cursor, setting)?;
-        let body = Boxed::new(self.alloc, body)?;
-        Ok(Def {
+        let body = Boxed::new(self.alloc, body.into_inner())?;
+        Ok(Held::new(Def {
             name,
             params,
             body,
             place,
-        })
+        }))
     }
 
     /// One or more definitions, and the IN.
-    fn definitions(&self, cursor: &mut Cursor<'_>, setting: Setting) -> Result<Items<Def>, SynFault>
+    fn definitions(&self, cursor: &mut Cursor<'_>, setting: Setting) -> Result<HeldItems<Def>, SynFault>
         requires { Nests self.now.left (F.pre self.now.read) (F.post self.now.read) }
         ensures { Reads (spec.definitions self.now.left (spec.nested self.now.left) setting cursor.old) result cursor.new }
     {
-        let mut found = Items::new(self.alloc);
+        let mut found = HeldItems::new(self.alloc);
         for _turn in 0..cursor.left() {
             found.push(self.definition(cursor, setting)?)?;
             if !cursor.sees(setting, Mark::Name) {
@@ -191,13 +188,14 @@ impl<
 
     /// LET.
     #[tactic(auto, unfolding(crate::specs::Reading::local))]
-    pub fn local(&self, cursor: &mut Cursor<'_>, setting: Setting) -> Result<Node, SynFault>
+    pub fn local(&self, cursor: &mut Cursor<'_>, setting: Setting) -> Result<Held<Node>, SynFault>
         requires { Nests self.now.left (F.pre self.now.read) (F.post self.now.read) }
         ensures { Reads (spec.local self.now.left (spec.nested self.now.left) setting cursor.old) result cursor.new }
     {
         let place = cursor.take();
         let definitions = self.definitions(cursor, setting)?;
         let body = self.part(cursor, setting)?;
-        Ok(unary(self.alloc, Form::Let(definitions), body, place)?)
+        let parts = HeldItems::of(self.alloc, body)?;
+        Ok(whole(Form::Let(definitions.into_items()), parts, place))
     }
 }

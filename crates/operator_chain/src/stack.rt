@@ -11,7 +11,7 @@ use sqlite_items::Items;
 use std::alloc::{AllocError, Global};
 use std::collections::VecDeque;
 use std::mem;
-use tla_ast::{Form, Node, Place};
+use tla_ast::{Def, Form, Group, Key, Node, Path, Place};
 
 /// An operator whose last operand isn't complete, with its left operand.
 #[derive(Debug, Drop)]
@@ -286,25 +286,74 @@ fn run(alloc: Global, mut pieces: VecDeque<Piece>) -> Result<Stack, AllocError>
     Ok(stack)
 }
 
-/// Drops a node with a loop over its parts, where the derived drop is a recursion. Where memory is short it falls back to
-/// that. What a form itself holds, as the sets of a quantifier, is dropped by recursion.
+/// Puts the arguments of keys behind the nodes.
+fn keep_keys(rest: &mut Items<Node>, mut keys: Items<Key>) {
+    while let Some(key) = keys.pop() {
+        if let Key::At(node) = key {
+            let _ = rest.push(node);
+        }
+    }
+}
+
+fn keep_paths(rest: &mut Items<Node>, mut paths: Items<Path>) {
+    while let Some(path) = paths.pop() {
+        keep_keys(rest, path.keys);
+    }
+}
+
+/// Puts the set of bound names behind the nodes.
+fn keep_group(rest: &mut Items<Node>, group: Group) {
+    let Group { names: _, domain } = group;
+    if let Some(set) = domain {
+        let _ = rest.push(set.into_inner());
+    }
+}
+
+fn keep_groups(rest: &mut Items<Node>, mut groups: Items<Group>) {
+    while let Some(group) = groups.pop() {
+        keep_group(rest, group);
+    }
+}
+
+/// Puts the right sides of definitions behind the nodes.
+fn keep_definitions(rest: &mut Items<Node>, mut definitions: Items<Def>) {
+    while let Some(definition) = definitions.pop() {
+        let _ = rest.push(definition.body.into_inner());
+    }
+}
+
+/// Puts what a form holds behind the nodes.
+fn keep_form(rest: &mut Items<Node>, form: Form) {
+    match form {
+        Form::Except(paths) => keep_paths(rest, paths),
+        Form::Quant { all: _, groups } => keep_groups(rest, groups),
+        Form::Choose(group) => keep_group(rest, group),
+        Form::Let(definitions) => keep_definitions(rest, definitions),
+        _ => {}
+    }
+}
+
+/// Drops a node with a loop over what it holds, where the derived drop is a recursion. Where memory is short it falls back to
+/// that.
 pub fn discard(node: Node) {
     let Node {
-        form: _,
+        form,
         parts: mut rest,
         place: _,
     } = node;
+    keep_form(&mut rest, form);
     for _ in 0..u64::MAX {
         match rest.pop() {
             None => return,
             Some(
                 Node {
-                    form: _,
+                    form,
                     parts,
                     place: _,
                 },
             ) => {
                 let _ = rest.append(parts);
+                keep_form(&mut rest, form);
             }
         }
     }
