@@ -1,25 +1,14 @@
 -- What chains and whole readings have used.
-use Rattle.std.proofs.Common.{◌≡◌, ℕ, zero, suc, ◌+◌, ◌-◌, ◌≤◌, ◌<◌, Bool, true, false, if◌then◌else◌, List, [], ◌∷◌, ◌++◌, length, take, drop, Option, Some, None, Result, Ok, Err, refl, sym, ap, subst, ◌∙◌, append_assoc, arith, nat_lt}
-use Rattle.std.specs.Prelude.{◌≢◌}
-use Rattle.std.specs.List.{All}
-use Rattle.std.proofs.lemmas.Bool.{true≢false, false≢true, ltb-true, lt-ltb}
-use Rattle.std.proofs.lemmas.List.{take-append-drop, length-append, length-drop}
-use Rattle.std.proofs.lemmas.List.Elements.{All-nil, All-cons}
-use Rattle.std.proofs.Math.Seq.{drop-append_seam}
-use Rattle.tla_ast.specs.declared.place.Place.{Place}
-use Rattle.tla_ast.specs.declared.token.Token.{Token}
-use Rattle.tla_ast.specs.declared.token.Tok.TheVariants as tok
+use Rattle.std.proofs.Common.{◌≡◌, ℕ, zero, suc, Bool, true, false, if◌then◌else◌, List, [], ◌∷◌, Option, Some, None, Result, Ok, Err, refl, sym, ap, subst, ◌∙◌, nat_lt}
+use Rattle.std.proofs.lemmas.Bool.{true≢false, false≢true}
 use Rattle.tla_ast.specs.declared.fault.SynFault.{SynFault}
 use Rattle.tla_ast.specs.declared.tree.Node.{Node}
-use Rattle.tla_ast.specs.Listing.{IsTokenList, Ends, is_last}
 use Rattle.std_names.specs.declared.operators.Fix.TheVariants.{Prefix, Infix}
-use Rattle.std_names.specs.Operators.{operator, infix_rows}
+use Rattle.std_names.specs.Operators.{operator}
 use Rattle.operator_chain.specs.declared.chain.Operator.{Operator}
-use Rattle.operator_chain.specs.declared.chain.Ending.{Ending}
-use Rattle.operator_chain.specs.declared.chain.Ending.TheVariants as ending
 use Rattle.operator_chain.specs.declared.chain.Piece.{Piece}
 use Rattle.operator_chain.specs.declared.chain.Piece.TheVariants as piece
-use Rattle.operator_chain.specs.Tree.{Tree, leaf, prefixed, suffixed, joined, flat, hole}
+use Rattle.operator_chain.specs.Tree.{hole}
 use Rattle.operator_chain.specs.Chain.{IsWhole, OneRightTree}
 use Rattle.layout_parser.specs.declared.mark.Mark.{Mark}
 use Rattle.layout_parser.specs.declared.mark.Mark.TheVariants as m
@@ -27,15 +16,15 @@ use Rattle.layout_parser.specs.declared.setting.Setting.{Setting}
 use Rattle.layout_parser.specs.declared.setting.Stop.TheVariants as stop
 use Rattle.layout_parser.specs.declared.flat.Step.{Step}
 use Rattle.layout_parser.specs.declared.flat.Step.TheVariants.{More, Ended, Broken}
-use Rattle.layout_parser.specs.Marks.{Text, mark_of, spelling}
-use Rattle.layout_parser.specs.Input.{Tokens, Outcome, Reader, first, next, here, mark, is_inside, name}
+use Rattle.layout_parser.specs.Marks.{Text, spelling}
+use Rattle.layout_parser.specs.Input.{Tokens, Outcome, first, next, here, mark, is_inside, name}
 use Rattle.layout_parser.specs.Reading as rule
 use Rattle.layout_parser.specs.Reading.{Chain, ChainReader, Stepped, behind, operator_in, operator_at, reading, nested, outermost, located, most_nestings, finished}
-use Rattle.layout_parser.specs.Laws.{IsReading, Uses, ReadInOrder, InsideTheRegion, EndIsExact, EndsBeforeTheLast, Stops}
+use Rattle.layout_parser.specs.Laws.{Stops}
 use Rattle.layout_parser.specs.Spelling as spell
 use Rattle.layout_parser.specs.Spelling.{Symbols, sign_at, expression, Operand, Subscript, MayUse, Spelled, none, token, of_operand, of_tree}
 use Rattle.layout_parser.proofs.ChainLaws.{Suits, IsGood, good-step}
-use Rattle.layout_parser.proofs.Steps.{refused, by-test, same-end, Read, Stands, nothing, both, up-to, on-token, on-sign-at, on-name, on-operator, on-operand, stands-at, Good, ChainRead, on-finished, le}
+use Rattle.layout_parser.proofs.Steps.{by-test, Read, Stands, nothing, both, up-to, on-sign-at, on-name, on-operator, on-operand, stands-at, Good, ChainRead}
 use Rattle.layout_parser.proofs.Readers.{operand, index}
 
 -- ---- steps
@@ -204,10 +193,10 @@ module _ (left : ℕ) (inner : ChainReader) (law : OneRightTree) (good : Good in
           let c = rule.chain_from left inner n s opens us in
           let h : ChainRead s opens us rest c.0 = more s opens us rest c.0 (λ i. (c.0, (ap (λ p. p.1) f) i)) in
           subst (λ l. ChainRead s waits ts rest l) (ap (λ p. p.0) f)
-              (let r : ChainRead s waits ts rest (x ∷ c.0) = record { whole = whole-piece waits opens x c.0 g.0 h.whole; listed = (g.1, h.listed); read = both (step-read s waits ts x opens us is) h.read } in r)
+          (let r : ChainRead s waits ts rest (x ∷ c.0) = record { whole = whole-piece waits opens x c.0 g.0 h.whole; listed = (g.1, h.listed); read = both (step-read s waits ts x opens us is) h.read } in r)
       by-step (Ended, us) is g more f = let h = step-stopped s waits ts us is in
           subst (λ l. ChainRead s waits ts rest l) (ap (λ p. p.0) f)
-              (let r : ChainRead s waits ts rest [] = record { whole = whole-none waits h.done; listed = tt; read = up-to (sym h.here ∙ same-tokens us rest (ap (λ p. p.1) f)) nothing } in r)
+          (let r : ChainRead s waits ts rest [] = record { whole = whole-none waits h.done; listed = tt; read = up-to (sym h.here ∙ same-tokens us rest (ap (λ p. p.1) f)) nothing } in r)
       by-step (Broken x q, us) is g more f = let z : (let r : Result Tokens SynFault = Err q in r) ≡ Ok rest = ap (λ p. p.1) f in absurd (cc)
 
 pub good-nested : OneRightTree → (left : ℕ) → Good (nested left)

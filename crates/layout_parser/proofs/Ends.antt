@@ -1,15 +1,14 @@
 -- Whole readings: the laws.
-use Rattle.std.proofs.Common.{◌≡◌, ℕ, zero, suc, ◌+◌, ◌-◌, ◌≤◌, ◌<◌, Bool, true, false, List, [], ◌∷◌, ◌++◌, length, take, drop, Option, Some, None, Result, Ok, Err, refl, sym, ap, subst, ◌∙◌, append_assoc, append-nil, arith, nat_lt}
+use Rattle.std.proofs.Common.{◌≡◌, ℕ, zero, suc, ◌+◌, ◌-◌, ◌≤◌, ◌<◌, Bool, true, false, List, [], ◌∷◌, ◌++◌, length, take, drop, Result, Ok, Err, refl, sym, ap, subst, ◌∙◌, append_assoc, append-nil, arith, nat_lt}
 use Rattle.std.specs.List.{All}
-use Rattle.std.proofs.lemmas.Bool.{true≢false, false≢true, ltb-true, lt-ltb}
+use Rattle.std.proofs.lemmas.Bool.{true≢false, ltb-true, lt-ltb}
 use Rattle.std.proofs.lemmas.List.{take-append-drop, length-append, length-drop}
 use Rattle.std.proofs.lemmas.List.Elements.{All-nil, All-cons}
 use Rattle.std.proofs.Math.Seq.{drop-append_seam}
 use Rattle.tla_ast.specs.declared.token.Token.{Token}
 use Rattle.tla_ast.specs.declared.fault.SynFault.{SynFault}
 use Rattle.tla_ast.specs.declared.tree.Node.{Node}
-use Rattle.tla_ast.specs.Listing.{IsTokenList, Ends, is_last}
-use Rattle.std_names.specs.declared.operators.Fix.TheVariants.{Infix}
+use Rattle.tla_ast.specs.Listing.{Ends}
 use Rattle.std_names.specs.Operators.{operator, infix_rows}
 use Rattle.operator_chain.specs.declared.chain.Ending.{Ending}
 use Rattle.operator_chain.specs.declared.chain.Ending.TheVariants as ending
@@ -18,7 +17,6 @@ use Rattle.operator_chain.specs.declared.chain.Piece.TheVariants as piece
 use Rattle.operator_chain.specs.Tree.{Tree, leaf, prefixed, suffixed, joined, flat}
 use Rattle.operator_chain.specs.Chain.{OneRightTree}
 use Rattle.layout_parser.specs.declared.setting.Setting.{Setting}
-use Rattle.layout_parser.specs.declared.flat.Step.{Step}
 use Rattle.layout_parser.specs.declared.flat.Step.TheVariants.{More, Ended, Broken}
 use Rattle.layout_parser.specs.Input.{Tokens, Outcome, first}
 use Rattle.layout_parser.specs.Reading as rule
@@ -26,7 +24,7 @@ use Rattle.layout_parser.specs.Reading.{Chain, ChainReader, Stepped, reading, ne
 use Rattle.layout_parser.specs.Laws.{IsReading, Uses, ReadInOrder, InsideTheRegion, EndIsExact, EndsBeforeTheLast, Stops}
 use Rattle.layout_parser.specs.Spelling as spell
 use Rattle.layout_parser.specs.Spelling.{Symbols, expression, Operand, Subscript, MayUse, Spelled, none, token, of_operand, of_tree}
-use Rattle.layout_parser.proofs.Steps.{same-end, Read, nothing, Good, Finished, finish, on-finished, le}
+use Rattle.layout_parser.proofs.Steps.{Read, nothing, Good, finish, on-finished, le}
 use Rattle.layout_parser.proofs.Chains.{good-nested, same-tokens, step-read, step-stopped}
 
 -- ---- what is spelled has a token
@@ -125,6 +123,7 @@ told law ts from region depth n to e = by-outcome (finished c) refl e
   where
     c : Chain
     c = nested (suc (most_nestings - depth)) (length (drop from ts)) (outermost region) true (drop from ts)
+
     by-outcome : (r : Outcome Node) → finished c ≡ r → located ts r ≡ Ok (n, to) → Told ts from region depth n to
     by-outcome (Ok p) is f =
         let node-is : p.0 ≡ n = ap (λ q. q.0) (same-pair (p.0, length ts - length p.1) (n, to) f) in
@@ -134,7 +133,7 @@ told law ts from region depth n to e = by-outcome (finished c) refl e
           xs = c.0;
           chain = (finish c n p.1 whole).chain;
           to_is = ap (λ q. q.1) (same-pair (p.0, length ts - length p.1) (n, to) f);
-          read = on-finished law (outermost region) c (le region) whole (λ xs us at. good-nested law (suc (most_nestings - depth)) (length (drop from ts)) (outermost region) true (drop from ts) us xs at) nothing
+          read = on-finished law (outermost region) c (le region) whole (λ xs us at. good-nested law (suc (most_nestings - depth)) (length (drop from ts)) (outermost region) true (drop from ts) us xs at) nothing;
         }
     by-outcome (Err x) is f = absurd (cc)
 
@@ -170,9 +169,12 @@ pub in-order : OneRightTree → ReadInOrder
 in-order law ts from region depth n to e = let h = told law ts from region depth n to e in (h.read.used, uses h, h.read.spelled)
 
 pub inside : OneRightTree → InsideTheRegion
-inside law ts from region depth n to e = let h = told law ts from region depth n to e in
-    (h.read.used, uses h, each-all (λ t. nat_lt region t.place.column ≡ true) h.read.used
-        (each-map (MayUse region) (λ t. nat_lt region t.place.column ≡ true) (λ t may. may.0) h.read.used (may-use h.read.spelled)))
+inside law ts from region depth n to e = let h = told law ts from region depth n to e in (
+  h.read.used,
+  uses h,
+  each-all (λ t. nat_lt region t.place.column ≡ true) h.read.used
+      (each-map (MayUse region) (λ t. nat_lt region t.place.column ≡ true) (λ t may. may.0) h.read.used (may-use h.read.spelled)),
+)
 
 -- ---- the end of a reading
 

@@ -1,6 +1,6 @@
 -- What a reader has used, step by step.
-use Rattle.std.proofs.Common.{◌≡◌, ℕ, zero, suc, ◌≤◌, Bool, true, false, if◌then◌else◌, ◌&&◌, nat_lt, Result, List, [], ◌∷◌, ◌++◌, Option, Some, None, Ok, Err, refl, sym, subst, ap, ◌∙◌, append_assoc, arith, rules}
-use Rattle.std.proofs.lemmas.Bool.{true≢false, false≢true, and_parts}
+use Rattle.std.proofs.Common.{◌≡◌, ℕ, zero, suc, ◌≤◌, Bool, true, false, if◌then◌else◌, nat_lt, Result, List, [], ◌∷◌, ◌++◌, Option, Some, None, Ok, Err, refl, sym, subst, ap, ◌∙◌, append_assoc, arith, rules}
+use Rattle.std.proofs.lemmas.Bool.{true≢false, and_parts}
 use denote.Enum.Bare.{same_true}
 use Rattle.std.proofs.lemmas.Option.{none-some}
 use Rattle.tla_ast.specs.declared.place.Place.{Place}
@@ -17,7 +17,7 @@ use Rattle.layout_parser.specs.declared.mark.Mark.TheVariants as m
 use Rattle.layout_parser.specs.declared.setting.Setting.{Setting}
 use Rattle.layout_parser.specs.declared.setting.Stop.{Stop}
 use Rattle.layout_parser.specs.Marks.{Text, mark_of, spelling, same_mark}
-use Rattle.layout_parser.specs.Input.{Tokens, Outcome, Reader, and_then, ◌>>=◌, ◌>>◌, first, next, here, mark, is_inside, sees, expect, name, declared, refusal, opening, eat, after}
+use Rattle.layout_parser.specs.Input.{Tokens, Outcome, Reader, and_then, ◌>>=◌, ◌>>◌, first, next, here, mark, sees, expect, name, declared, opening, after}
 use Rattle.std_names.specs.declared.operators.Fix.{Fix}
 use Rattle.std_names.specs.declared.operators.Fix.TheVariants.{Prefix, Infix, Postfix}
 use Rattle.std_names.specs.Operators.{operator, prefix_rows, infix_rows, postfix_rows}
@@ -49,6 +49,7 @@ same-end {A = A} a b ts us e = (ap (λ p. p.0) pair, ap (λ p. p.1) pair)
     of_ok : Outcome A → A × Tokens
     of_ok (Ok p) = p
     of_ok (Err x) = (a, ts)
+
     pair : (let p : A × Tokens = (a, ts) in p) ≡ (b, us)
     pair = ap of_ok e
 
@@ -251,7 +252,7 @@ on-finished law s {region = region} {ts = ts} {mid = mid} {rest = rest} {n = n} 
       used = h.read.used ++ r.used;
       is = h.read.is ∙ ap (λ l. h.read.used ++ l) r.is ∙ sym (append_assoc h.read.used r.used rest);
       spelled = of_tree f.tree f.node tree.1 (subst AreListed (sym tree.0) h.listed) inside
-          (subst (λ l. Spelled s.region s.has_at (pieces s.region s.has_at l) h.read.used) (sym tree.0) h.read.spelled) r.spelled
+          (subst (λ l. Spelled s.region s.has_at (pieces s.region s.has_at l) h.read.used) (sym tree.0) h.read.spelled) r.spelled;
     }
 
 -- an operand has been read
