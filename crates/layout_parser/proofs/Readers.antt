@@ -1,6 +1,7 @@
 -- What each rule has used.
+use Rattle.std.specs.Prelude.{◌≢◌}
 use Rattle.std.proofs.Common.{◌≡◌, ℕ, zero, suc, ◌≤◌, ◌<◌, nat_lt, Bool, true, false, if◌then◌else◌, List, [], ◌∷◌, ◌++◌, length, Ok, Err, refl, sym, ap, subst, ◌∙◌, append_assoc, arith, nat_eq, ◌&&◌, ◌||◌, not, map, Option, Some, None}
-use Rattle.std.proofs.lemmas.Bool.{and_parts, eqb-true, ltb-true}
+use Rattle.std.proofs.lemmas.Bool.{and_parts, and_from, eqb-true, eq-eqb, ltb-true, true≢false}
 use Rattle.tla_ast.specs.declared.place.Place.{Place}
 use Rattle.tla_ast.specs.declared.tree.Node.{Node, out-Node}
 use Rattle.tla_ast.specs.declared.tree.Form.TheVariants as form
@@ -25,15 +26,15 @@ use Rattle.layout_parser.specs.declared.mark.Mark.TheVariants as m
 use Rattle.layout_parser.specs.declared.setting.Around.TheVariants as around
 use Rattle.layout_parser.specs.declared.setting.Setting.{Setting}
 use Rattle.layout_parser.specs.declared.setting.Stop.TheVariants as stop
-use Rattle.layout_parser.specs.Marks.{spelling, same_mark}
+use Rattle.layout_parser.specs.Marks.{spelling, same_mark, mark_of}
 use Rattle.layout_parser.specs.Input.{Tokens, Outcome, first, next, here, sees, sees_second, declared, and_then, within, is_tuple, is_inside, mark, right_of, with_at, after}
 use Rattle.layout_parser.specs.Reading as rule
 use Rattle.layout_parser.specs.Reading.{Chain, ChainReader, part, behind, after_member, member_at, is_whole, is_tuple_form, with_field, with_update}
 use Rattle.layout_parser.specs.Spelling as spell
-use Rattle.layout_parser.specs.Spelling.{Symbols, sign, sign_at, expression, same, between, word, Operand, Subscript}
+use Rattle.layout_parser.specs.Spelling.{Stops, Symbols, sign, sign_at, expression, same, between, word, Operand, Subscript}
 use Rattle.layout_parser.proofs.ChainLaws.{member-listed}
 use Rattle.layout_parser.proofs.Belongs.{member-fits}
-use Rattle.layout_parser.proofs.Steps.{in-front, after-no, stands-at, marks-same, behind-sign, up-from, is_outside, at-any-place, none-after, on-token, on-operand, finish, got, refused, derived-as, subscribed-as, eaten, begun, by-test, by-reader, same-end, Read, Stands, stands, nothing, both, up-to, on-sign, on-sign-at, on-word, on-declared, on-eat, on-no, Good, ChainRead, on-finished, le, Derives, derived, Subscribes, subscribed}
+use Rattle.layout_parser.proofs.Steps.{on-no-bullet, same-marks, in-front, after-no, stands-at, marks-same, behind-sign, up-from, is_outside, at-any-place, none-after, on-token, on-operand, finish, got, refused, derived-as, subscribed-as, eaten, begun, by-test, by-reader, same-end, Read, Stands, stands, nothing, both, up-to, on-sign, on-sign-at, on-word, on-declared, on-eat, on-no, Good, ChainRead, on-finished, le, Derives, derived, Subscribes, subscribed}
 
 single : (x : Node) (xs : List Node) → nat_eq (length (x ∷ xs)) 1 ≡ true → xs ≡ []
 single x [] e = refl
@@ -47,15 +48,23 @@ empty : {A : Type 0} (xs : List A) → nat_eq (length xs) 0 ≡ true → xs ≡ 
 empty [] e = refl
 empty (x ∷ xs) e = let none : length (x ∷ xs) ≡ 0 = eqb-true _ 0 e in absurd (omega (arith, none))
 
+other-bullet : (column : ℕ) (k : Mark) (ts : Tokens) → (nat_eq (here ts).column column && same_mark (mark ts) k) ≡ false → mark_of (first ts).tok ≡ k → (here ts).column ≢ column
+unfolding mark
+other-bullet column k ts none marked at = true≢false (sym (and_from (nat_eq (here ts).column column) (same_mark (mark ts) k) (eq-eqb (here ts).column column at) (same-marks (mark ts) k marked)) ∙ none)
+
 below : {a b : ℕ} → nat_lt a b ≡ true → a ≤ b
 below {a} {b} e = let less : a < b = ltb-true a b e in omega arith
 
 module _ (left : ℕ) (inner : ChainReader) (law : OneRightTree) (good : Good inner) where
+  -- a chain that may have as many pieces as there are tokens
+  full : (n : ℕ) (s : Setting) (ts us : Tokens) (xs : List Piece) → length ts ≤ n → inner n s true ts ≡ (xs, Ok us) → ChainRead s true ts us xs × Stops s.region (first us)
+  full n s ts us xs room is = let h = good n s true ts us xs is in (h.0, h.1 room)
+
   -- an expression in a further nesting
   on-part : (s : Setting) {region : ℕ} {has_at : Bool} {ts mid rest : Tokens} {x : Node} {ys : Symbols} → region ≤ s.region → part left inner s ts ≡ Ok (x, mid)
       → Read region has_at mid rest ys → Read region has_at ts rest (expression s.region s.has_at x ∷ ys)
   unfolding part
-  on-part s {ts = ts} inside e r = on-finished law s (inner (length ts) s true ts) inside e (λ xs us is. good (length ts) s true ts us xs is) r
+  on-part s {ts = ts} inside e r = on-finished law s (inner (length ts) s true ts) inside e (λ xs us is. full (length ts) s ts us xs (le (length ts)) is) r
 
   on-same : (s : Setting) {ts mid rest : Tokens} {x : Node} {ys : Symbols} → part left inner s ts ≡ Ok (x, mid)
       → Read s.region s.has_at mid rest ys → Read s.region s.has_at ts rest (same s.region s.has_at x ∷ ys)
@@ -180,11 +189,11 @@ module _ (left : ℕ) (inner : ChainReader) (law : OneRightTree) (good : Good in
   set-chain s ts = inner (length (next (next ts))) s true (next (next ts))
 
   member-chain : (s : Setting) (ts : Tokens) → Stands s.region m.Name ts → Stands s.region m.Belongs (next ts) → (xs : List Piece) (us : Tokens)
-      → after_member (spelling (first ts).tok) (here ts) (here (next ts)) (set-chain s ts) ≡ (xs, Ok us) → ChainRead s true ts us xs
+      → after_member (spelling (first ts).tok) (here ts) (here (next ts)) (set-chain s ts) ≡ (xs, Ok us) → ChainRead s true ts us xs × Stops s.region (first us)
   unfolding set-chain
   member-chain s ts at sign-at xs us is = let c = set-chain s ts in
-      subst (λ l. ChainRead s true ts us l) (ap (λ p. p.0) is)
-      (with-member s ts us c.0 at sign-at (good (length (next (next ts))) s true (next (next ts)) us c.0 (λ i. (c.0, (ap (λ p. p.1) is) i))))
+      let h = full (length (next (next ts))) s (next (next ts)) us c.0 (le (length (next (next ts)))) (λ i. (c.0, (ap (λ p. p.1) is) i)) in
+      (subst (λ l. ChainRead s true ts us l) (ap (λ p. p.0) is) (with-member s ts us c.0 at sign-at h.0), h.1)
 
   whole-sees : (s : Setting) (k : Mark) (c : Chain) (xs : List Piece) (us : Tokens) → c ≡ (xs, Ok us) → is_whole s k c ≡ true → sees s k us ≡ true
   whole-sees s k c xs us is w = (and_parts (sees s k us) _ (subst (λ d. is_whole s k d ≡ true) is w)).0
@@ -195,7 +204,7 @@ module _ (left : ℕ) (inner : ChainReader) (law : OneRightTree) (good : Good in
   member-brace s ts rest n at name-at sign-at e = let c = set-chain s (next ts) in by-test {b = is_whole s m.Colon c} e
       (λ whole e1. got e1 (λ set mid e2 f2. got f2 (λ condition t3 e3 f3. eaten (within around.Colon s) stop.Expression m.CloseBrace _ refl f3 (λ close f4.
       derived f4 (spell.filter (spelling (first (next ts)).tok) set condition (here (next ts)))
-      (on-sign at (on-word name-at (on-sign sign-at (on-finished law s c (le s.region) e2 (λ xs us is. good _ s true _ us xs is)
+      (on-sign at (on-word name-at (on-sign sign-at (on-finished law s c (le s.region) e2 (λ xs us is. full _ s _ us xs (le _) is)
       (on-sign (stands s m.Colon mid refl (whole-sees s m.Colon c c.0 mid (finish c set mid e2).chain whole)) (on-same (within around.Colon s) e3 (on-sign close nothing)))))))))))
       (λ _ e1. got e1 (λ x mid e2 f2. brace-end s ts mid rest n x at (on-finished law s _ (le s.region) e2 (member-chain s (next ts) name-at sign-at) nothing) f2))
 
@@ -203,9 +212,10 @@ module _ (left : ℕ) (inner : ChainReader) (law : OneRightTree) (good : Good in
       → and_then (rule.finished (behind (piece.Operand a ∷ []) (inner (length mid) s false mid))) (rule.brace_end left inner s (here ts)) ≡ Ok (n, rest) → Derives s.region s.has_at ts rest n
   tuple-in s ts mid rest n a at r e = got e (λ x t2 e2 f2. brace-end s ts t2 rest n x at (on-finished law s _ (le s.region) e2 chain nothing) f2)
     where
-      chain : (xs : List Piece) (us : Tokens) → behind (piece.Operand a ∷ []) (inner (length mid) s false mid) ≡ (xs, Ok us) → ChainRead s true (next ts) us xs
+      chain : (xs : List Piece) (us : Tokens) → behind (piece.Operand a ∷ []) (inner (length mid) s false mid) ≡ (xs, Ok us) → ChainRead s true (next ts) us xs × Stops s.region (first us)
       chain xs us is = let c = inner (length mid) s false mid in let h = good (length mid) s false mid us c.0 (λ i. (c.0, (ap (λ p. p.1) is) i)) in
-          subst (λ l. ChainRead s true (next ts) us l) (ap (λ p. p.0) is) (let x : ChainRead s true (next ts) us (piece.Operand a ∷ c.0) = record { whole = h.whole; listed = (tt, h.listed); read = both r h.read } in x)
+          (subst (λ l. ChainRead s true (next ts) us l) (ap (λ p. p.0) is) (let x : ChainRead s true (next ts) us (piece.Operand a ∷ c.0) = record { whole = h.0.whole; listed = (tt, h.0.listed); read = both r h.0.read } in x),
+            h.1 (le (length mid)))
 
   tuple-brace-after : (s : Setting) (ts mid rest : Tokens) (n a : Node) → Stands s.region m.OpenBrace ts → Read s.region s.has_at (next ts) mid (spell.operand a ∷ [])
       → rule.tuple_brace_after left inner s (here ts) a mid ≡ Ok (n, rest) → Derives s.region s.has_at ts rest n
@@ -219,7 +229,7 @@ module _ (left : ℕ) (inner : ChainReader) (law : OneRightTree) (good : Good in
 
   tuple-brace : (s : Setting) (ts rest : Tokens) (n : Node) → Stands s.region m.OpenBrace ts → rule.tuple_brace left inner s (here ts) (next ts) ≡ Ok (n, rest) → Derives s.region s.has_at ts rest n
   unfolding rule.tuple_brace
-  tuple-brace s ts rest n at e = by-chain (inner 1 s true (next ts)) (λ xs us is. (good 1 s true (next ts) us xs is).read) e
+  tuple-brace s ts rest n at e = by-chain (inner 1 s true (next ts)) (λ xs us is. (good 1 s true (next ts) us xs is).0.read) e
     where
       by-chain : (c : Chain) → ((xs : List Piece) (us : Tokens) → c ≡ (xs, Ok us) → Read s.region s.has_at (next ts) us (spell.pieces s.region s.has_at xs)) → rule.tuple_brace_by left inner s (here ts) c ≡ Ok (n, rest)
           → Derives s.region s.has_at ts rest n
@@ -295,7 +305,7 @@ module _ (left : ℕ) (inner : ChainReader) (law : OneRightTree) (good : Good in
 
   key-of : (s : Setting) (ts rest : Tokens) (k : Key) → rule.key_of left inner s ts ≡ Ok (k, rest) → Read s.region s.has_at ts rest (spell.key_symbols s.region s.has_at k)
   unfolding rule.key_of
-  key-of s ts rest k e = by-test {b = sees s m.OpenSquare ts || sees s m.Dot ts} e (λ _ e1. by-chain (inner 1 s false ts) (λ xs us is. (good 1 s false ts us xs is).read) e1) (λ _ e1. refused e1)
+  key-of s ts rest k e = by-test {b = sees s m.OpenSquare ts || sees s m.Dot ts} e (λ _ e1. by-chain (inner 1 s false ts) (λ xs us is. (good 1 s false ts us xs is).0.read) e1) (λ _ e1. refused e1)
     where
       by-chain : (c : Chain) → ((xs : List Piece) (us : Tokens) → c ≡ (xs, Ok us) → Read s.region s.has_at ts us (spell.pieces s.region s.has_at xs)) → rule.by_key s c ≡ Ok (k, rest)
           → Read s.region s.has_at ts rest (spell.key_symbols s.region s.has_at k)
@@ -396,7 +406,7 @@ module _ (left : ℕ) (inner : ChainReader) (law : OneRightTree) (good : Good in
   member-square s ts rest n at name-at sign-at e = let c = set-chain s (next ts) in by-test {b = is_whole s m.Maps c} e
       (λ whole e1. got e1 (λ set mid e2 f2. got f2 (λ x t3 e3 f3. eaten s stop.Expression m.CloseSquare _ refl f3 (λ close f4.
       derived f4 (spell.function (spelling (first (next ts)).tok) set x (here (next ts)))
-      (on-sign at (on-word name-at (on-sign sign-at (on-finished law s c (le s.region) e2 (λ xs us is. good _ s true _ us xs is)
+      (on-sign at (on-word name-at (on-sign sign-at (on-finished law s c (le s.region) e2 (λ xs us is. full _ s _ us xs (le _) is)
       (on-sign (stands s m.Maps mid refl (whole-sees s m.Maps c c.0 mid (finish c set mid e2).chain whole)) (on-same s e3 (on-sign close nothing)))))))))))
       (λ _ e1. got e1 (λ x mid e2 f2. square-end s ts mid rest n x at (on-finished law s _ (le s.region) e2 (member-chain s (next ts) name-at sign-at) nothing) f2))
 
@@ -675,7 +685,7 @@ module _ (left : ℕ) (inner : ChainReader) (law : OneRightTree) (good : Good in
         are = h.are ∙ append_assoc found (x ∷ []) (h.head ∷ h.tail);
         read = on-part s (below over) e1 (on-token bullet.may (bullet.marked, column) bullet.some h.read);
       })
-      (λ none e3. let z = same-end _ xs mid rest e3 in record { head = x; tail = []; are = sym z.0; read = on-part s (below over) e1 (up-to z.1 nothing) }))
+      (λ none e3. let z = same-end _ xs mid rest e3 in record { head = x; tail = []; are = sym z.0; read = on-part s (below over) e1 (on-no-bullet (other-bullet s.region k mid none) (up-to z.1 nothing)) }))
 
   items : (region : ℕ) (s : Setting) (k : Mark) (ts : Tokens) (xs : List Node) (rest : Tokens) → is_outside k ≡ false → nat_lt region s.region ≡ true
       → rule.items left inner s k ts ≡ Ok (xs, rest) → Itemed region s k [] xs ts rest

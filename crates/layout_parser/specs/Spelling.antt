@@ -1,5 +1,5 @@
 -- The grammar of expressions: which tokens, in which order, are a spelling of a node.
-use Rattle.std.specs.Prelude.{◌≡◌, ℕ, Bool, true, false, ◌≤◌, nat_lt, List, [], ◌∷◌, ◌++◌, map, Option, Some, None, if◌then◌else◌}
+use Rattle.std.specs.Prelude.{◌≡◌, ◌≢◌, ℕ, Bool, true, false, ◌≤◌, nat_lt, List, [], ◌∷◌, ◌++◌, map, Option, Some, None, if◌then◌else◌}
 use Rattle.tla_ast.specs.declared.place.Place.{Place}
 use Rattle.tla_ast.specs.declared.token.Token.{Token}
 use Rattle.tla_ast.specs.declared.tree.Node.{Node}
@@ -25,7 +25,7 @@ use Rattle.operator_chain.specs.Listed.{AreListed}
 use Rattle.layout_parser.specs.declared.mark.Mark.{Mark}
 use Rattle.layout_parser.specs.declared.mark.Mark.TheVariants as m
 use Rattle.layout_parser.specs.Marks.{Text, mark_of, spelling}
-use Rattle.layout_parser.specs.Input.{Tokens, literal_form}
+use Rattle.layout_parser.specs.Input.{Tokens, literal_form, first}
 use Rattle.layout_parser.specs.Reading.{node, group, operator_at}
 
 -- ---- symbols
@@ -35,6 +35,7 @@ pub data Symbol : Type 0 where
   sign : Mark → Symbol
   sign_at : Mark → Place → Symbol
   bullet : Mark → ℕ → Symbol
+  no_bullet : Mark → ℕ → Symbol
   word : Mark → Text → Place → Symbol
   field_name : Text → Symbol
   declared : Decl → Symbol
@@ -57,6 +58,7 @@ Fits (declared d) t = (mark_of t.tok ≡ m.Name) × (d ≡ record { name = spell
 Fits (literal k f place) t = (mark_of t.tok ≡ k) × (literal_form t.tok ≡ f) × (t.place ≡ place)
 Fits (operator_sign fix o) t = operator_at t (operator (spelling t.tok) fix) ≡ Some o
 Fits (operand n) t = ⊥
+Fits (no_bullet k column) t = ⊥
 Fits (expression region has_at n) t = ⊥
 
 -- a token that an expression of the region may use: its column is over the region, and it is not what ends the list
@@ -208,9 +210,9 @@ module _ (region : ℕ) (has_at : Bool) where
   definitions [] = []
   definitions (d ∷ ds) = definition d ++ definitions ds
 
-  -- the items of a junction list after the first, with their bullets, in one column
+  -- the items of a junction list after the first, with their bullets, in one column, and no further bullet there
   abbrev pub items : Mark → ℕ → List Node → Symbols
-  items k column [] = []
+  items k column [] = no_bullet k column ∷ []
   items k column (x ∷ xs) = bullet k column ∷ expression column has_at x ∷ items k column xs
 
   -- ---- operands
@@ -287,18 +289,27 @@ module _ (region : ℕ) (has_at : Bool) where
 
 -- ---- spellings
 
--- The tokens are a spelling of the symbols, in order, in a region. An expression is spelled by the pieces of a right tree of which
--- it is the node, and its region lies in the region round it.
-pub data Spelled : ℕ → Bool → Symbols → Tokens → Type 0 where
-  none : {region : ℕ} {has_at : Bool} → Spelled region has_at [] []
-  token : {region : ℕ} {has_at : Bool} {y : Symbol} {ys : Symbols} {used : Tokens} (t : Token) → MayUse region t → Fits y t
-      → Spelled region has_at ys used → Spelled region has_at (y ∷ ys) (t ∷ used)
-  of_operand : {region : ℕ} {has_at : Bool} {n : Node} {parts ys : Symbols} {used more : Tokens} → Operand region has_at n parts
-      → Spelled region has_at parts used → Spelled region has_at ys more → Spelled region has_at (operand n ∷ ys) (used ++ more)
-  of_tree : {region inner : ℕ} {has_at at : Bool} {n : Node} {ys : Symbols} {used more : Tokens} (t : Tree) → n ≡ node_of t → is_right t ≡ true
-      → AreListed (flat t) → region ≤ inner → Spelled inner at (pieces inner at (flat t)) used → Spelled region has_at ys more
-      → Spelled region has_at (expression inner at n ∷ ys) (used ++ more)
+-- the token does not go on with an expression of the region: it lies outside, or it is no infix operator and begins no postfix one
+abbrev pub Stops : ℕ → Token → Type 0
+Stops region t = nat_lt region t.place.column ≡ true
+    → (operator (spelling t.tok) Infix ≡ None) × (mark_of t.tok ≢ m.Prime) × (mark_of t.tok ≢ m.OpenSquare) × (mark_of t.tok ≢ m.Dot)
 
--- the tokens are a spelling of the node as an expression of the region
-abbrev pub Spells : ℕ → Bool → Node → Tokens → Type 0
-Spells region has_at n used = Spelled region has_at (expression region has_at n ∷ []) used
+-- The first tokens are a spelling of the symbols, in order, in a region, where the others follow them. An expression is spelled by the
+-- pieces of a right tree of which it is the node, up to the first token that does not go on with it; its region lies in the region
+-- round it. A junction list ends where no further bullet follows.
+pub data Spelled : ℕ → Bool → Symbols → Tokens → Tokens → Type 0 where
+  none : {region : ℕ} {has_at : Bool} {rest : Tokens} → Spelled region has_at [] [] rest
+  token : {region : ℕ} {has_at : Bool} {y : Symbol} {ys : Symbols} {used rest : Tokens} (t : Token) → MayUse region t → Fits y t
+      → Spelled region has_at ys used rest → Spelled region has_at (y ∷ ys) (t ∷ used) rest
+  of_no_bullet : {region : ℕ} {has_at : Bool} {k : Mark} {column : ℕ} {ys : Symbols} {used rest : Tokens}
+      → (mark_of (first (used ++ rest)).tok ≡ k → (first (used ++ rest)).place.column ≢ column)
+      → Spelled region has_at ys used rest → Spelled region has_at (no_bullet k column ∷ ys) used rest
+  of_operand : {region : ℕ} {has_at : Bool} {n : Node} {parts ys : Symbols} {used more rest : Tokens} → Operand region has_at n parts
+      → Spelled region has_at parts used (more ++ rest) → Spelled region has_at ys more rest → Spelled region has_at (operand n ∷ ys) (used ++ more) rest
+  of_tree : {region inner : ℕ} {has_at at : Bool} {n : Node} {ys : Symbols} {used more rest : Tokens} (t : Tree) → n ≡ node_of t → is_right t ≡ true
+      → AreListed (flat t) → region ≤ inner → Stops inner (first (more ++ rest)) → Spelled inner at (pieces inner at (flat t)) used (more ++ rest)
+      → Spelled region has_at ys more rest → Spelled region has_at (expression inner at n ∷ ys) (used ++ more) rest
+
+-- the first tokens are a spelling of the node as an expression of the region, where the others follow them
+abbrev pub Spells : ℕ → Bool → Node → Tokens → Tokens → Type 0
+Spells region has_at n used rest = Spelled region has_at (expression region has_at n ∷ []) used rest
