@@ -27,7 +27,7 @@ use Rattle.layout_parser.specs.Spelling.{Stops}
 use Rattle.layout_parser.specs.Spelling as spell
 use Rattle.layout_parser.specs.Spelling.{Symbols, sign_at, expression, Operand, Subscript, MayUse, Spelled, none, token, of_operand, of_tree, of_no_bullet}
 use Rattle.layout_parser.proofs.ChainLaws.{Suits, IsGood, good-step}
-use Rattle.layout_parser.proofs.Steps.{le, by-test, Read, Stands, nothing, both, up-to, on-sign-at, on-name, on-operator, on-operand, stands-at, Good, ChainRead}
+use Rattle.layout_parser.proofs.Steps.{by-test, Read, Stands, nothing, both, up-to, on-sign-at, on-name, on-operator, on-operand, stands-at, Good, ChainRead}
 use Rattle.layout_parser.proofs.Readers.{operand, index}
 
 -- ---- what is spelled has a token

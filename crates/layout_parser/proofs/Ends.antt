@@ -1,5 +1,5 @@
 -- Whole readings: the laws.
-use Rattle.std.proofs.Common.{◌≡◌, ℕ, zero, suc, ◌+◌, ◌-◌, ◌≤◌, ◌<◌, Bool, true, false, List, [], ◌∷◌, ◌++◌, length, take, drop, Result, Ok, Err, refl, sym, ap, subst, ◌∙◌, append_assoc, append-nil, arith, nat_lt}
+use Rattle.std.proofs.Common.{◌≡◌, ℕ, suc, ◌+◌, ◌-◌, ◌≤◌, ◌<◌, Bool, true, false, List, [], ◌∷◌, ◌++◌, length, take, drop, Result, Ok, Err, refl, sym, ap, subst, ◌∙◌, append_assoc, append-nil, arith, nat_lt}
 use Rattle.std.specs.List.{All}
 use Rattle.std.proofs.lemmas.Bool.{true≢false, ltb-true, lt-ltb}
 use Rattle.std.proofs.lemmas.List.{take-append-drop, length-append, length-drop}
@@ -9,22 +9,13 @@ use Rattle.tla_ast.specs.declared.token.Token.{Token}
 use Rattle.tla_ast.specs.declared.fault.SynFault.{SynFault}
 use Rattle.tla_ast.specs.declared.tree.Node.{Node}
 use Rattle.tla_ast.specs.Listing.{Ends}
-use Rattle.std_names.specs.Operators.{operator, infix_rows}
-use Rattle.operator_chain.specs.declared.chain.Ending.{Ending}
-use Rattle.operator_chain.specs.declared.chain.Ending.TheVariants as ending
 use Rattle.operator_chain.specs.declared.chain.Piece.{Piece}
-use Rattle.operator_chain.specs.declared.chain.Piece.TheVariants as piece
-use Rattle.operator_chain.specs.Tree.{Tree, leaf, prefixed, suffixed, joined, flat}
 use Rattle.operator_chain.specs.Chain.{OneRightTree}
-use Rattle.layout_parser.specs.declared.setting.Setting.{Setting}
-use Rattle.layout_parser.specs.declared.flat.Step.TheVariants.{More, Ended, Broken}
 use Rattle.layout_parser.specs.Input.{Tokens, Outcome, first}
-use Rattle.layout_parser.specs.Reading as rule
-use Rattle.layout_parser.specs.Reading.{Chain, ChainReader, Stepped, reading, nested, outermost, located, most_nestings, finished}
+use Rattle.layout_parser.specs.Reading.{Chain, reading, nested, outermost, located, most_nestings, finished}
 use Rattle.layout_parser.specs.Laws.{IsReading, Uses, ReadInOrder, InsideTheRegion, EndIsExact, EndsBeforeTheLast}
-use Rattle.layout_parser.specs.Spelling as spell
-use Rattle.layout_parser.specs.Spelling.{Stops, Symbols, expression, Operand, Subscript, MayUse, Spelled, none, token, of_operand, of_tree, of_no_bullet}
-use Rattle.layout_parser.proofs.Steps.{Read, nothing, Good, finish, on-finished, le}
+use Rattle.layout_parser.specs.Spelling.{Stops, Symbols, expression, MayUse, Spelled, none, token, of_operand, of_tree, of_no_bullet}
+use Rattle.layout_parser.proofs.Steps.{Read, nothing, finish, on-finished, le}
 use Rattle.layout_parser.proofs.Chains.{good-nested, IsMore, more-length, some-used}
 
 -- ---- each token may be used

@@ -213,9 +213,10 @@ module _ (left : ℕ) (inner : ChainReader) (law : OneRightTree) (good : Good in
   tuple-in s ts mid rest n a at r e = got e (λ x t2 e2 f2. brace-end s ts t2 rest n x at (on-finished law s _ (le s.region) e2 chain nothing) f2)
     where
       chain : (xs : List Piece) (us : Tokens) → behind (piece.Operand a ∷ []) (inner (length mid) s false mid) ≡ (xs, Ok us) → ChainRead s true (next ts) us xs × Stops s.region (first us)
-      chain xs us is = let c = inner (length mid) s false mid in let h = good (length mid) s false mid us c.0 (λ i. (c.0, (ap (λ p. p.1) is) i)) in
-          (subst (λ l. ChainRead s true (next ts) us l) (ap (λ p. p.0) is) (let x : ChainRead s true (next ts) us (piece.Operand a ∷ c.0) = record { whole = h.0.whole; listed = (tt, h.0.listed); read = both r h.0.read } in x),
-            h.1 (le (length mid)))
+      chain xs us is = let c = inner (length mid) s false mid in let h = good (length mid) s false mid us c.0 (λ i. (c.0, (ap (λ p. p.1) is) i)) in (
+        subst (λ l. ChainRead s true (next ts) us l) (ap (λ p. p.0) is) (let x : ChainRead s true (next ts) us (piece.Operand a ∷ c.0) = record { whole = h.0.whole; listed = (tt, h.0.listed); read = both r h.0.read } in x),
+        h.1 (le (length mid)),
+      )
 
   tuple-brace-after : (s : Setting) (ts mid rest : Tokens) (n a : Node) → Stands s.region m.OpenBrace ts → Read s.region s.has_at (next ts) mid (spell.operand a ∷ [])
       → rule.tuple_brace_after left inner s (here ts) a mid ≡ Ok (n, rest) → Derives s.region s.has_at ts rest n

@@ -130,18 +130,18 @@ joined {more = more} {rest = rest} (of_no_bullet {k = k} {column = column} {used
     of_no_bullet (subst (λ l. mark_of (first l).tok ≡ k → (first l).place.column ≢ column) (ap (λ l. a ++ l) is ∙ sym (append_assoc a more rest)) other) (joined g is h)
 joined {region} {has_at} {zs = zs} {more = more} {rest = rest} (of_operand {n = n} {parts = parts} {ys = ys} {used = a} {more = b} made inside g) is h =
     subst (λ l. Spelled region has_at (operand n ∷ (ys ++ zs)) l rest) (sym (append_assoc a b more))
-        (of_operand made (subst (Spelled region has_at parts a) (ap (λ l. b ++ l) is ∙ sym (append_assoc b more rest)) inside) (joined g is h))
+    (of_operand made (subst (Spelled region has_at parts a) (ap (λ l. b ++ l) is ∙ sym (append_assoc b more rest)) inside) (joined g is h))
 joined {region} {has_at} {zs = zs} {more = more} {rest = rest} (of_tree {inner = inner} {at = at} {n = n} {ys = ys} {used = a} {more = b} t node right listed wide stops inside g) is h =
     let on : b ++ _ ≡ (b ++ more) ++ rest = ap (λ l. b ++ l) is ∙ sym (append_assoc b more rest) in
     subst (λ l. Spelled region has_at (expression inner at n ∷ (ys ++ zs)) l rest) (sym (append_assoc a b more))
-        (of_tree t node right listed wide (subst (λ l. Stops inner (first l)) on stops) (subst (Spelled inner at (pieces inner at (flat t)) a) on inside) (joined g is h))
+    (of_tree t node right listed wide (subst (λ l. Stops inner (first l)) on stops) (subst (Spelled inner at (pieces inner at (flat t)) a) on inside) (joined g is h))
 
 pub both : {region : ℕ} {has_at : Bool} {ts mid rest : Tokens} {ys zs : Symbols} → Read region has_at ts mid ys → Read region has_at mid rest zs → Read region has_at ts rest (ys ++ zs)
 both {region} {has_at} {rest = rest} {ys = ys} p q = record {
-    used = p.used ++ q.used;
-    is = p.is ∙ ap (λ l. p.used ++ l) q.is ∙ sym (append_assoc p.used q.used rest);
-    spelled = joined p.spelled q.is q.spelled
-  }
+  used = p.used ++ q.used;
+  is = p.is ∙ ap (λ l. p.used ++ l) q.is ∙ sym (append_assoc p.used q.used rest);
+  spelled = joined p.spelled q.is q.spelled;
+}
 
 pub on-no-bullet : {region : ℕ} {has_at : Bool} {ts rest : Tokens} {k : Mark} {column : ℕ} {ys : Symbols} → (mark_of (first ts).tok ≡ k → (here ts).column ≢ column) → Read region has_at ts rest ys
     → Read region has_at ts rest (no_bullet k column ∷ ys)
@@ -275,7 +275,7 @@ on-finished law s {region = region} {ts = ts} {mid = mid} {rest = rest} {n = n} 
       is = h.read.is ∙ ap (λ l. h.read.used ++ l) r.is ∙ sym (append_assoc h.read.used r.used rest);
       spelled = of_tree f.tree f.node tree.1 (subst AreListed (sym tree.0) h.listed) inside (subst (λ l. Stops s.region (first l)) r.is both-parts.1)
           (subst (Spelled s.region s.has_at (pieces s.region s.has_at (flat f.tree)) h.read.used) r.is
-              (subst (λ l. Spelled s.region s.has_at (pieces s.region s.has_at l) h.read.used mid) (sym tree.0) h.read.spelled)) r.spelled
+          (subst (λ l. Spelled s.region s.has_at (pieces s.region s.has_at l) h.read.used mid) (sym tree.0) h.read.spelled)) r.spelled;
     }
 
 -- an operand has been read
@@ -315,10 +315,10 @@ on-subscript h r = both h.read r
 pub on-operand : {region : ℕ} {has_at : Bool} {ts mid rest : Tokens} {n : Node} {parts ys : Symbols} → Operand region has_at n parts → Read region has_at ts mid parts → Read region has_at mid rest ys
     → Read region has_at ts rest (operand n ∷ ys)
 on-operand {region} {has_at} {rest = rest} {parts = parts} made p q = record {
-    used = p.used ++ q.used;
-    is = p.is ∙ ap (λ l. p.used ++ l) q.is ∙ sym (append_assoc p.used q.used rest);
-    spelled = of_operand made (subst (Spelled region has_at parts p.used) q.is p.spelled) q.spelled
-  }
+  used = p.used ++ q.used;
+  is = p.is ∙ ap (λ l. p.used ++ l) q.is ∙ sym (append_assoc p.used q.used rest);
+  spelled = of_operand made (subst (Spelled region has_at parts p.used) q.is p.spelled) q.spelled;
+}
 
 -- a sign at a place is that sign
 pub at-any-place : {region : ℕ} {has_at : Bool} {ts rest : Tokens} {k : Mark} {place : Place} {ys : Symbols} → Read region has_at ts rest (sign_at k place ∷ ys) → Read region has_at ts rest (sign k ∷ ys)

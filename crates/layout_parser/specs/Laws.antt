@@ -1,13 +1,9 @@
 -- What readings of expressions are, in the words of the language.
-use Rattle.std.specs.Prelude.{◌≡◌, ◌≢◌, ℕ, ◌<◌, ◌≤◌, true, false, None, nat_lt, List, ◌++◌, length, drop, Ok}
+use Rattle.std.specs.Prelude.{◌≡◌, ℕ, ◌<◌, ◌≤◌, true, false, nat_lt, List, ◌++◌, length, drop, Ok}
 use Rattle.std.specs.List.{All}
 use Rattle.tla_ast.specs.declared.token.Token.{Token}
 use Rattle.tla_ast.specs.declared.tree.Node.{Node}
 use Rattle.tla_ast.specs.Listing.{IsTokenList}
-use Rattle.std_names.specs.declared.operators.Fix.TheVariants.{Infix}
-use Rattle.std_names.specs.Operators.{operator}
-use Rattle.layout_parser.specs.declared.mark.Mark.TheVariants as m
-use Rattle.layout_parser.specs.Marks.{mark_of, spelling}
 use Rattle.layout_parser.specs.Input.{first}
 use Rattle.layout_parser.specs.Reading.{reading}
 use Rattle.layout_parser.specs.Spelling.{Spells, Stops}

@@ -30,17 +30,19 @@ use Rattle.layout_parser.specs.Reading.{node, group, operator_at}
 
 -- ---- symbols
 
--- What a rule of the grammar is made of. An expression has a region, and the test says whether a new value of an EXCEPT is round it.
+-- What a rule of the grammar is made of: one token (a sign, anywhere, at a place or as the bullet of a column; a word at a place; the name
+-- of a field; a name that is declared; a number or a string; an operator), no token where no further bullet follows, an operand, or
+-- an expression with its region, where the test says whether a new value of an EXCEPT is round it.
 pub data Symbol : Type 0 where
   sign : Mark → Symbol
   sign_at : Mark → Place → Symbol
   bullet : Mark → ℕ → Symbol
-  no_bullet : Mark → ℕ → Symbol
   word : Mark → Text → Place → Symbol
   field_name : Text → Symbol
   declared : Decl → Symbol
   literal : Mark → Form → Place → Symbol
   operator_sign : Fix → Operator → Symbol
+  no_bullet : Mark → ℕ → Symbol
   operand : Node → Symbol
   expression : ℕ → Bool → Node → Symbol
 

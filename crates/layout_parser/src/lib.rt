@@ -1,4 +1,8 @@
 //! The reader of expressions.
+//!
+//! To the layers above this crate promises the reading of an expression, and of readings five laws: what is read is what the tokens
+//! spell, in order, by the grammar; no token outside the region is used; a reading ends before the first token that doesn't go on
+//! with it, and before the token that ends the list; and there is one reading at most.
 #![tactic(auto)]
 
 mod bound;
