@@ -1,5 +1,5 @@
 -- Which token is the `\in` of a bound.
-use Rattle.std.proofs.Common.{◌≡◌, ℕ, Bool, true, false, ◌&&◌, if◌then◌else◌, nat_eq, List, [], ◌∷◌, Option, Some, refl, sym, ap, subst, ◌∙◌}
+use Rattle.std.proofs.Common.{◌≡◌, Bool, true, false, ◌&&◌, if◌then◌else◌, nat_eq, List, [], ◌∷◌, Some, refl, sym, ap, subst, ◌∙◌}
 use Rattle.std.specs.Prelude.{codes}
 use Rattle.std.specs.Cmp.Lexicographic.{pointwise, bytes_decides}
 use Rattle.std.proofs.lemmas.Bool.{and_parts, true≢false}
@@ -11,8 +11,7 @@ use Rattle.std_names.specs.Operators.{operator, infix_rows}
 use Rattle.layout_parser.specs.declared.mark.Mark.{Mark}
 use Rattle.layout_parser.specs.declared.mark.Mark.TheVariants as m
 use Rattle.layout_parser.specs.Marks.{Text, words, signs, mark_in, mark_of, spelling, same_mark}
-use Rattle.layout_parser.specs.Reading.{operator_at, member_at}
-use Rattle.layout_parser.specs.Spelling.{Fits, operator_sign}
+use Rattle.layout_parser.specs.Reading.{operator_at}
 
 -- each row with this mark has this text
 abbrev is_only : List (Text × Mark) → Mark → Text → Bool

@@ -1,24 +1,16 @@
 -- What chains and whole readings have used.
-use Rattle.std.proofs.Common.{◌≡◌, ℕ, zero, suc, ◌+◌, ◌-◌, ◌≤◌, ◌<◌, Bool, true, false, if◌then◌else◌, List, [], ◌∷◌, ◌++◌, length, take, drop, Option, Some, None, Result, Ok, Err, refl, sym, ap, subst, ◌∙◌, append_assoc, arith, nat_lt}
-use Rattle.std.specs.Prelude.{◌≢◌}
-use Rattle.std.specs.List.{All}
-use Rattle.std.proofs.lemmas.Bool.{true≢false, false≢true, ltb-true, lt-ltb}
-use Rattle.std.proofs.lemmas.List.{take-append-drop, length-append, length-drop}
-use Rattle.std.proofs.lemmas.List.Elements.{All-nil, All-cons}
-use Rattle.std.proofs.Math.Seq.{drop-append_seam}
-use Rattle.tla_ast.specs.declared.place.Place.{Place}
-use Rattle.tla_ast.specs.declared.token.Token.{Token}
-use Rattle.tla_ast.specs.declared.token.Tok.TheVariants as tok
+use Rattle.std.proofs.Common.{◌+◌, ◌≤◌, ◌<◌, ◌++◌, length, arith, ◌≡◌, ℕ, zero, suc, Bool, true, false, if◌then◌else◌, List, [], ◌∷◌, Option, Some, None, Result, Ok, Err, refl, sym, ap, subst, ◌∙◌, nat_lt}
+use Rattle.std.proofs.lemmas.Bool.{true≢false, false≢true}
+use Rattle.std.proofs.lemmas.List.{length-append}
 use Rattle.tla_ast.specs.declared.fault.SynFault.{SynFault}
 use Rattle.tla_ast.specs.declared.tree.Node.{Node}
-use Rattle.tla_ast.specs.Listing.{IsTokenList, Ends, is_last}
 use Rattle.std_names.specs.declared.operators.Fix.TheVariants.{Prefix, Infix}
 use Rattle.std_names.specs.Operators.{operator, infix_rows}
 use Rattle.operator_chain.specs.declared.chain.Operator.{Operator}
-use Rattle.operator_chain.specs.declared.chain.Ending.{Ending}
-use Rattle.operator_chain.specs.declared.chain.Ending.TheVariants as ending
 use Rattle.operator_chain.specs.declared.chain.Piece.{Piece}
 use Rattle.operator_chain.specs.declared.chain.Piece.TheVariants as piece
+use Rattle.operator_chain.specs.declared.chain.Ending.{Ending}
+use Rattle.operator_chain.specs.declared.chain.Ending.TheVariants as ending
 use Rattle.operator_chain.specs.Tree.{Tree, leaf, prefixed, suffixed, joined, flat, hole}
 use Rattle.operator_chain.specs.Chain.{IsWhole, OneRightTree}
 use Rattle.layout_parser.specs.declared.mark.Mark.{Mark}
@@ -27,16 +19,87 @@ use Rattle.layout_parser.specs.declared.setting.Setting.{Setting}
 use Rattle.layout_parser.specs.declared.setting.Stop.TheVariants as stop
 use Rattle.layout_parser.specs.declared.flat.Step.{Step}
 use Rattle.layout_parser.specs.declared.flat.Step.TheVariants.{More, Ended, Broken}
-use Rattle.layout_parser.specs.Marks.{Text, mark_of, spelling}
-use Rattle.layout_parser.specs.Input.{Tokens, Outcome, Reader, first, next, here, mark, is_inside, name}
+use Rattle.layout_parser.specs.Marks.{Text, spelling}
+use Rattle.layout_parser.specs.Input.{Tokens, Outcome, first, next, here, mark, is_inside, name}
 use Rattle.layout_parser.specs.Reading as rule
 use Rattle.layout_parser.specs.Reading.{Chain, ChainReader, Stepped, behind, operator_in, operator_at, reading, nested, outermost, located, most_nestings, finished}
-use Rattle.layout_parser.specs.Laws.{IsReading, Uses, ReadInOrder, InsideTheRegion, EndIsExact, EndsBeforeTheLast, Stops}
+use Rattle.layout_parser.specs.Spelling.{Stops}
 use Rattle.layout_parser.specs.Spelling as spell
-use Rattle.layout_parser.specs.Spelling.{Symbols, sign_at, expression, Operand, Subscript, MayUse, Spelled, none, token, of_operand, of_tree}
+use Rattle.layout_parser.specs.Spelling.{Symbols, sign_at, expression, Operand, Subscript, MayUse, Spelled, none, token, of_operand, of_tree, of_no_bullet}
 use Rattle.layout_parser.proofs.ChainLaws.{Suits, IsGood, good-step}
-use Rattle.layout_parser.proofs.Steps.{refused, by-test, same-end, Read, Stands, nothing, both, up-to, on-token, on-sign-at, on-name, on-operator, on-operand, stands-at, Good, ChainRead, on-finished, le}
+use Rattle.layout_parser.proofs.Steps.{by-test, Read, Stands, nothing, both, up-to, on-sign-at, on-name, on-operator, on-operand, stands-at, Good, ChainRead}
 use Rattle.layout_parser.proofs.Readers.{operand, index}
+
+-- ---- what is spelled has a token
+
+abbrev pub IsMore : {A : Type 0} → List A → Type 0
+IsMore [] = ⊥
+IsMore (x ∷ xs) = Unit {0}
+
+pub more-append : {A : Type 0} (xs ys : List A) → IsMore xs → IsMore (xs ++ ys)
+more-append [] ys h = absurd h
+more-append (x ∷ xs) ys h = tt
+
+flat-more : (t : Tree) → IsMore (flat t)
+flat-more (leaf a) = tt
+flat-more (prefixed p t) = tt
+flat-more (suffixed t q) = more-append (flat t) (piece.Postfix q ∷ []) (flat-more t)
+flat-more (joined l o r) = more-append (flat l) (piece.Infix o ∷ flat r) (flat-more l)
+
+-- the first symbol takes a token
+abbrev Begins : Symbols → Type 0
+Begins [] = ⊥
+Begins (spell.no_bullet k column ∷ ys) = ⊥
+Begins (_ ∷ ys) = Unit {0}
+
+begins-append : (xs ys : Symbols) → Begins xs → Begins (xs ++ ys)
+begins-append [] ys h = absurd h
+begins-append (spell.no_bullet k column ∷ xs) ys h = absurd h
+begins-append (_ ∷ xs) ys h = h
+
+pub piece-more : (region : ℕ) (has_at : Bool) (x : Piece) → Begins (spell.piece_symbols region has_at x)
+piece-more region has_at (piece.Operand n) = tt
+piece-more region has_at (piece.Prefix p) = tt
+piece-more region has_at (piece.Infix o) = tt
+piece-more region has_at (piece.Postfix q) = by-ending q.ending
+  where
+    by-ending : (end : Ending) → Begins (spell.ending_symbols region has_at end q.place)
+    by-ending ending.Prime = tt
+    by-ending (ending.Index x) = tt
+    by-ending (ending.Field h) = tt
+
+pieces-more : (region : ℕ) (has_at : Bool) (xs : List Piece) → IsMore xs → Begins (spell.pieces region has_at xs)
+pieces-more region has_at [] h = absurd h
+pieces-more region has_at (x ∷ xs) h = begins-append (spell.piece_symbols region has_at x) (spell.pieces region has_at xs) (piece-more region has_at x)
+
+subscript-more : {region : ℕ} {has_at : Bool} {n : Node} {ys : Symbols} → Subscript region has_at n ys → Begins ys
+subscript-more (spell.identifier x place) = tt
+subscript-more _ = tt
+
+operand-more : {region : ℕ} {has_at : Bool} {n : Node} {ys : Symbols} → Operand region has_at n ys → Begins ys
+operand-more (spell.plain n ys s) = subscript-more s
+operand-more _ = tt
+
+pub some-used : {region : ℕ} {has_at : Bool} {ys : Symbols} {used rest : Tokens} → Spelled region has_at ys used rest → Begins ys → IsMore used
+some-used none h = absurd h
+some-used (token t may fits g) h = tt
+some-used (of_no_bullet other g) h = absurd h
+some-used (of_operand {used = used} {more = more} made parts g) h = more-append used more (some-used parts (operand-more made))
+some-used (of_tree {inner = inner} {at = at} {used = used} {more = more} t is right listed inside stops parts g) h = more-append used more (some-used parts (pieces-more inner at (flat t) (flat-more t)))
+
+pub more-length : (xs : Tokens) → IsMore xs → 0 < length xs
+more-length [] h = absurd h
+more-length (x ∷ xs) h = omega arith
+
+empty-stops : (region : ℕ) (ts : Tokens) → length ts ≤ 0 → Stops region (first ts)
+unfolding operator infix_rows
+empty-stops region [] e inside-it = (refl, λ p. absurd (cc), λ p. absurd (cc), λ p. absurd (cc))
+empty-stops region (t ∷ ts) e inside-it = absurd (omega (arith, e))
+
+pub shorter : {region : ℕ} {has_at : Bool} {ts us : Tokens} {ys : Symbols} → Begins ys → Read region has_at ts us ys → length us < length ts
+shorter {ts = ts} {us = us} more r =
+    let all : length ts ≡ length r.used + length us = ap length r.is ∙ length-append r.used us in
+    let some : 0 < length r.used = more-length r.used (some-used r.spelled more) in omega arith
 
 -- ---- steps
 
@@ -204,13 +267,31 @@ module _ (left : ℕ) (inner : ChainReader) (law : OneRightTree) (good : Good in
           let c = rule.chain_from left inner n s opens us in
           let h : ChainRead s opens us rest c.0 = more s opens us rest c.0 (λ i. (c.0, (ap (λ p. p.1) f) i)) in
           subst (λ l. ChainRead s waits ts rest l) (ap (λ p. p.0) f)
-              (let r : ChainRead s waits ts rest (x ∷ c.0) = record { whole = whole-piece waits opens x c.0 g.0 h.whole; listed = (g.1, h.listed); read = both (step-read s waits ts x opens us is) h.read } in r)
+          (let r : ChainRead s waits ts rest (x ∷ c.0) = record { whole = whole-piece waits opens x c.0 g.0 h.whole; listed = (g.1, h.listed); read = both (step-read s waits ts x opens us is) h.read } in r)
       by-step (Ended, us) is g more f = let h = step-stopped s waits ts us is in
           subst (λ l. ChainRead s waits ts rest l) (ap (λ p. p.0) f)
-              (let r : ChainRead s waits ts rest [] = record { whole = whole-none waits h.done; listed = tt; read = up-to (sym h.here ∙ same-tokens us rest (ap (λ p. p.1) f)) nothing } in r)
+          (let r : ChainRead s waits ts rest [] = record { whole = whole-none waits h.done; listed = tt; read = up-to (sym h.here ∙ same-tokens us rest (ap (λ p. p.1) f)) nothing } in r)
       by-step (Broken x q, us) is g more f = let z : (let r : Result Tokens SynFault = Err q in r) ≡ Ok rest = ap (λ p. p.1) f in absurd (cc)
+
+  chain-stops : (n : ℕ) (s : Setting) (waits : Bool) (ts rest : Tokens) (xs : List Piece) → length ts ≤ n → rule.chain_from left inner n s waits ts ≡ (xs, Ok rest) → Stops s.region (first rest)
+  unfolding rule.chain_from
+  chain-stops zero s true ts rest xs few e = let f : (let r : Result Tokens SynFault = rule.full s true ts in r) ≡ Ok rest = ap (λ p. p.1) e in absurd (cc)
+  chain-stops zero s false ts rest xs few e = subst (λ l. Stops s.region (first l)) (same-tokens ts rest (ap (λ p. p.1) e)) (empty-stops s.region ts few)
+  chain-stops (suc n) s waits ts rest xs few e = by-step (rule.step left inner s waits ts) refl (chain-stops n) e
+    where
+      by-step : (p : Stepped) → rule.step left inner s waits ts ≡ p
+          → ((s : Setting) (waits : Bool) (ts rest : Tokens) (xs : List Piece) → length ts ≤ n → rule.chain_from left inner n s waits ts ≡ (xs, Ok rest) → Stops s.region (first rest))
+          → rule.joined p (rule.chain_from left inner n s) ≡ (xs, Ok rest) → Stops s.region (first rest)
+      by-step (More x opens, us) is more f =
+          let c = rule.chain_from left inner n s opens us in
+          let less : length us < length ts = shorter (piece-more s.region s.has_at x) (step-read s waits ts x opens us is) in
+          more s opens us rest c.0 (omega (arith, less, few)) (λ i. (c.0, (ap (λ p. p.1) f) i))
+      by-step (Ended, us) is more f = let h = step-stopped s waits ts us is in
+          subst (λ l. Stops s.region (first l)) (sym h.here ∙ same-tokens us rest (ap (λ p. p.1) f)) h.stops
+      by-step (Broken x q, us) is more f = let z : (let r : Result Tokens SynFault = Err q in r) ≡ Ok rest = ap (λ p. p.1) f in absurd (cc)
 
 pub good-nested : OneRightTree → (left : ℕ) → Good (nested left)
 unfolding nested
 good-nested law zero n s waits ts rest xs e = let z : (let r : Result Tokens SynFault = (nested zero n s waits ts).1 in r) ≡ Ok rest = ap (λ p. p.1) e in absurd (cc)
-good-nested law (suc left) n s waits ts rest xs e = chain-read left (nested left) law (good-nested law left) n s waits ts rest xs e
+good-nested law (suc left) n s waits ts rest xs e =
+    (chain-read left (nested left) law (good-nested law left) n s waits ts rest xs e, λ few. chain-stops left (nested left) law (good-nested law left) n s waits ts rest xs few e)

@@ -1,78 +1,22 @@
 -- Whole readings: the laws.
-use Rattle.std.proofs.Common.{◌≡◌, ℕ, zero, suc, ◌+◌, ◌-◌, ◌≤◌, ◌<◌, Bool, true, false, List, [], ◌∷◌, ◌++◌, length, take, drop, Option, Some, None, Result, Ok, Err, refl, sym, ap, subst, ◌∙◌, append_assoc, append-nil, arith, nat_lt}
+use Rattle.std.proofs.Common.{◌≡◌, ℕ, suc, ◌+◌, ◌-◌, ◌≤◌, ◌<◌, Bool, true, false, List, [], ◌∷◌, ◌++◌, length, take, drop, Result, Ok, Err, refl, sym, ap, subst, ◌∙◌, append_assoc, append-nil, arith, nat_lt}
 use Rattle.std.specs.List.{All}
-use Rattle.std.proofs.lemmas.Bool.{true≢false, false≢true, ltb-true, lt-ltb}
+use Rattle.std.proofs.lemmas.Bool.{true≢false, ltb-true, lt-ltb}
 use Rattle.std.proofs.lemmas.List.{take-append-drop, length-append, length-drop}
 use Rattle.std.proofs.lemmas.List.Elements.{All-nil, All-cons}
 use Rattle.std.proofs.Math.Seq.{drop-append_seam}
 use Rattle.tla_ast.specs.declared.token.Token.{Token}
 use Rattle.tla_ast.specs.declared.fault.SynFault.{SynFault}
 use Rattle.tla_ast.specs.declared.tree.Node.{Node}
-use Rattle.tla_ast.specs.Listing.{IsTokenList, Ends, is_last}
-use Rattle.std_names.specs.declared.operators.Fix.TheVariants.{Infix}
-use Rattle.std_names.specs.Operators.{operator, infix_rows}
-use Rattle.operator_chain.specs.declared.chain.Ending.{Ending}
-use Rattle.operator_chain.specs.declared.chain.Ending.TheVariants as ending
+use Rattle.tla_ast.specs.Listing.{Ends}
 use Rattle.operator_chain.specs.declared.chain.Piece.{Piece}
-use Rattle.operator_chain.specs.declared.chain.Piece.TheVariants as piece
-use Rattle.operator_chain.specs.Tree.{Tree, leaf, prefixed, suffixed, joined, flat}
 use Rattle.operator_chain.specs.Chain.{OneRightTree}
-use Rattle.layout_parser.specs.declared.setting.Setting.{Setting}
-use Rattle.layout_parser.specs.declared.flat.Step.{Step}
-use Rattle.layout_parser.specs.declared.flat.Step.TheVariants.{More, Ended, Broken}
 use Rattle.layout_parser.specs.Input.{Tokens, Outcome, first}
-use Rattle.layout_parser.specs.Reading as rule
-use Rattle.layout_parser.specs.Reading.{Chain, ChainReader, Stepped, reading, nested, outermost, located, most_nestings, finished}
-use Rattle.layout_parser.specs.Laws.{IsReading, Uses, ReadInOrder, InsideTheRegion, EndIsExact, EndsBeforeTheLast, Stops}
-use Rattle.layout_parser.specs.Spelling as spell
-use Rattle.layout_parser.specs.Spelling.{Symbols, expression, Operand, Subscript, MayUse, Spelled, none, token, of_operand, of_tree}
-use Rattle.layout_parser.proofs.Steps.{same-end, Read, nothing, Good, Finished, finish, on-finished, le}
-use Rattle.layout_parser.proofs.Chains.{good-nested, same-tokens, step-read, step-stopped}
-
--- ---- what is spelled has a token
-
-abbrev IsMore : {A : Type 0} → List A → Type 0
-IsMore [] = ⊥
-IsMore (x ∷ xs) = Unit {0}
-
-more-append : {A : Type 0} (xs ys : List A) → IsMore xs → IsMore (xs ++ ys)
-more-append [] ys h = absurd h
-more-append (x ∷ xs) ys h = tt
-
-flat-more : (t : Tree) → IsMore (flat t)
-flat-more (leaf a) = tt
-flat-more (prefixed p t) = tt
-flat-more (suffixed t q) = more-append (flat t) (piece.Postfix q ∷ []) (flat-more t)
-flat-more (joined l o r) = more-append (flat l) (piece.Infix o ∷ flat r) (flat-more l)
-
-piece-more : (region : ℕ) (has_at : Bool) (x : Piece) → IsMore (spell.piece_symbols region has_at x)
-piece-more region has_at (piece.Operand n) = tt
-piece-more region has_at (piece.Prefix p) = tt
-piece-more region has_at (piece.Infix o) = tt
-piece-more region has_at (piece.Postfix q) = by-ending q.ending
-  where
-    by-ending : (end : Ending) → IsMore (spell.ending_symbols region has_at end q.place)
-    by-ending ending.Prime = tt
-    by-ending (ending.Index x) = tt
-    by-ending (ending.Field h) = tt
-
-pieces-more : (region : ℕ) (has_at : Bool) (xs : List Piece) → IsMore xs → IsMore (spell.pieces region has_at xs)
-pieces-more region has_at [] h = absurd h
-pieces-more region has_at (x ∷ xs) h = more-append (spell.piece_symbols region has_at x) (spell.pieces region has_at xs) (piece-more region has_at x)
-
-subscript-more : {region : ℕ} {has_at : Bool} {n : Node} {ys : Symbols} → Subscript region has_at n ys → IsMore ys
-subscript-more (spell.identifier x place) = tt
-subscript-more _ = tt
-
-operand-more : {region : ℕ} {has_at : Bool} {n : Node} {ys : Symbols} → Operand region has_at n ys → IsMore ys
-operand-more (spell.plain n ys s) = subscript-more s
-operand-more _ = tt
-
-some-used : {region : ℕ} {has_at : Bool} {ys : Symbols} {used : Tokens} → Spelled region has_at ys used → IsMore ys → IsMore used
-some-used none h = h
-some-used (token t may fits g) h = tt
-some-used (of_operand {used = used} {more = more} made parts g) h = more-append used more (some-used parts (operand-more made))
-some-used (of_tree {inner = inner} {at = at} {used = used} {more = more} t is right listed inside parts g) h = more-append used more (some-used parts (pieces-more inner at (flat t) (flat-more t)))
+use Rattle.layout_parser.specs.Reading.{Chain, reading, nested, outermost, located, most_nestings, finished}
+use Rattle.layout_parser.specs.Laws.{IsReading, Uses, ReadInOrder, InsideTheRegion, EndIsExact, EndsBeforeTheLast}
+use Rattle.layout_parser.specs.Spelling.{Stops, Symbols, expression, MayUse, Spelled, none, token, of_operand, of_tree, of_no_bullet}
+use Rattle.layout_parser.proofs.Steps.{Read, nothing, finish, on-finished, le}
+use Rattle.layout_parser.proofs.Chains.{good-nested, IsMore, more-length, some-used}
 
 -- ---- each token may be used
 
@@ -95,11 +39,12 @@ each-all P (x ∷ xs) h = All-cons P x xs h.0 (each-all P xs h.1)
 wider : (region inner : ℕ) → region ≤ inner → (t : Token) → MayUse inner t → MayUse region t
 wider region inner inside t h = let over : inner < t.place.column = ltb-true inner t.place.column h.0 in (lt-ltb region t.place.column (omega arith), h.1)
 
-may-use : {region : ℕ} {has_at : Bool} {ys : Symbols} {used : Tokens} → Spelled region has_at ys used → Each (MayUse region) used
+may-use : {region : ℕ} {has_at : Bool} {ys : Symbols} {used rest : Tokens} → Spelled region has_at ys used rest → Each (MayUse region) used
 may-use none = tt
 may-use (token t may fits g) = (may, may-use g)
+may-use (of_no_bullet other g) = may-use g
 may-use {region} (of_operand {used = used} {more = more} made parts g) = each-append (MayUse region) used more (may-use parts) (may-use g)
-may-use {region} (of_tree {inner = inner} {used = used} {more = more} t is right listed inside parts g) =
+may-use {region} (of_tree {inner = inner} {used = used} {more = more} t is right listed inside stops parts g) =
     each-append (MayUse region) used more (each-map (MayUse inner) (MayUse region) (wider region inner inside) used (may-use parts)) (may-use g)
 
 -- ---- readings
@@ -125,6 +70,7 @@ told law ts from region depth n to e = by-outcome (finished c) refl e
   where
     c : Chain
     c = nested (suc (most_nestings - depth)) (length (drop from ts)) (outermost region) true (drop from ts)
+
     by-outcome : (r : Outcome Node) → finished c ≡ r → located ts r ≡ Ok (n, to) → Told ts from region depth n to
     by-outcome (Ok p) is f =
         let node-is : p.0 ≡ n = ap (λ q. q.0) (same-pair (p.0, length ts - length p.1) (n, to) f) in
@@ -134,7 +80,7 @@ told law ts from region depth n to e = by-outcome (finished c) refl e
           xs = c.0;
           chain = (finish c n p.1 whole).chain;
           to_is = ap (λ q. q.1) (same-pair (p.0, length ts - length p.1) (n, to) f);
-          read = on-finished law (outermost region) c (le region) whole (λ xs us at. good-nested law (suc (most_nestings - depth)) (length (drop from ts)) (outermost region) true (drop from ts) us xs at) nothing
+          read = on-finished law (outermost region) c (le region) whole (λ xs us at. let all = good-nested law (suc (most_nestings - depth)) (length (drop from ts)) (outermost region) true (drop from ts) us xs at in (all.0, all.1 (le (length (drop from ts))))) nothing;
         }
     by-outcome (Err x) is f = absurd (cc)
 
@@ -143,10 +89,6 @@ back ts pre rest e =
     let all : length ts ≡ length pre + length rest = ap length e ∙ length-append pre rest in
     let at : length ts - length rest ≡ length pre = omega arith in
     ap (λ k. drop k ts) at ∙ ap (λ l. drop (length pre) l) e ∙ drop-append_seam pre rest
-
-more-length : (xs : Tokens) → IsMore xs → 0 < length xs
-more-length [] h = absurd h
-more-length (x ∷ xs) h = omega arith
 
 module _ {ts : Tokens} {from region depth : ℕ} {n : Node} {to : ℕ} (h : Told ts from region depth n to) where
   split : ts ≡ (take from ts ++ h.read.used) ++ h.rest
@@ -167,50 +109,22 @@ module _ {ts : Tokens} {from region depth : ℕ} {n : Node} {to : ℕ} (h : Told
       record { are = h.read.is ∙ ap (λ l. h.read.used ++ l) (sym rest-is); some = omega arith; within = omega arith }
 
 pub in-order : OneRightTree → ReadInOrder
-in-order law ts from region depth n to e = let h = told law ts from region depth n to e in (h.read.used, uses h, h.read.spelled)
+in-order law ts from region depth n to e = let h = told law ts from region depth n to e in (h.read.used, uses h, subst (Spelled region false (expression region false n ∷ []) h.read.used) (sym (rest-is h)) h.read.spelled)
 
 pub inside : OneRightTree → InsideTheRegion
-inside law ts from region depth n to e = let h = told law ts from region depth n to e in
-    (h.read.used, uses h, each-all (λ t. nat_lt region t.place.column ≡ true) h.read.used
-        (each-map (MayUse region) (λ t. nat_lt region t.place.column ≡ true) (λ t may. may.0) h.read.used (may-use h.read.spelled)))
+inside law ts from region depth n to e = let h = told law ts from region depth n to e in (
+  h.read.used,
+  uses h,
+  each-all (λ t. nat_lt region t.place.column ≡ true) h.read.used
+      (each-map (MayUse region) (λ t. nat_lt region t.place.column ≡ true) (λ t may. may.0) h.read.used (may-use h.read.spelled)),
+)
 
 -- ---- the end of a reading
 
-empty-stops : (region : ℕ) (ts : Tokens) → length ts ≤ 0 → Stops region (first ts)
-unfolding operator infix_rows
-empty-stops region [] e inside-it = (refl, λ p. absurd (cc), λ p. absurd (cc), λ p. absurd (cc))
-empty-stops region (t ∷ ts) e inside-it = absurd (omega (arith, e))
-
-shorter : {region : ℕ} {has_at : Bool} {ts us : Tokens} {ys : Symbols} → IsMore ys → Read region has_at ts us ys → length us < length ts
-shorter {ts = ts} {us = us} more r =
-    let all : length ts ≡ length r.used + length us = ap length r.is ∙ length-append r.used us in
-    let some : 0 < length r.used = more-length r.used (some-used r.spelled more) in omega arith
-
-module _ (left : ℕ) (inner : ChainReader) (law : OneRightTree) (good : Good inner) where
-  chain-stops : (n : ℕ) (s : Setting) (waits : Bool) (ts rest : Tokens) (xs : List Piece) → length ts ≤ n → rule.chain_from left inner n s waits ts ≡ (xs, Ok rest) → Stops s.region (first rest)
-  unfolding rule.chain_from
-  chain-stops zero s true ts rest xs few e = let f : (let r : Result Tokens SynFault = rule.full s true ts in r) ≡ Ok rest = ap (λ p. p.1) e in absurd (cc)
-  chain-stops zero s false ts rest xs few e = subst (λ l. Stops s.region (first l)) (same-tokens ts rest (ap (λ p. p.1) e)) (empty-stops s.region ts few)
-  chain-stops (suc n) s waits ts rest xs few e = by-step (rule.step left inner s waits ts) refl (chain-stops n) e
-    where
-      by-step : (p : Stepped) → rule.step left inner s waits ts ≡ p
-          → ((s : Setting) (waits : Bool) (ts rest : Tokens) (xs : List Piece) → length ts ≤ n → rule.chain_from left inner n s waits ts ≡ (xs, Ok rest) → Stops s.region (first rest))
-          → rule.joined p (rule.chain_from left inner n s) ≡ (xs, Ok rest) → Stops s.region (first rest)
-      by-step (More x opens, us) is more f =
-          let c = rule.chain_from left inner n s opens us in
-          let less : length us < length ts = shorter (piece-more s.region s.has_at x) (step-read left inner law good s waits ts x opens us is) in
-          more s opens us rest c.0 (omega (arith, less, few)) (λ i. (c.0, (ap (λ p. p.1) f) i))
-      by-step (Ended, us) is more f = let h = step-stopped left inner law good s waits ts us is in
-          subst (λ l. Stops s.region (first l)) (sym h.here ∙ same-tokens us rest (ap (λ p. p.1) f)) h.stops
-      by-step (Broken x q, us) is more f = let z : (let r : Result Tokens SynFault = Err q in r) ≡ Ok rest = ap (λ p. p.1) f in absurd (cc)
-
-nested-stops : OneRightTree → (left : ℕ) (s : Setting) (ts rest : Tokens) (xs : List Piece) → nested (suc left) (length ts) s true ts ≡ (xs, Ok rest) → Stops s.region (first rest)
-unfolding nested
-nested-stops law left s ts rest xs e = chain-stops left (nested left) law (good-nested law left) (length ts) s true ts rest xs (le (length ts)) e
-
 pub exact : OneRightTree → EndIsExact
 exact law ts from region depth n to e = let h = told law ts from region depth n to e in
-    subst (λ l. Stops region (first l)) (sym (rest-is h)) (nested-stops law (most_nestings - depth) (outermost region) (drop from ts) h.rest h.xs h.chain)
+    let all = good-nested law (suc (most_nestings - depth)) (length (drop from ts)) (outermost region) true (drop from ts) h.rest h.xs h.chain in
+    subst (λ l. Stops region (first l)) (sym (rest-is h)) (all.1 (le (length (drop from ts))))
 
 -- ---- the last token
 

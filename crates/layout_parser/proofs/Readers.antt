@@ -1,12 +1,13 @@
 -- What each rule has used.
+use Rattle.std.specs.Prelude.{◌≢◌}
 use Rattle.std.proofs.Common.{◌≡◌, ℕ, zero, suc, ◌≤◌, ◌<◌, nat_lt, Bool, true, false, if◌then◌else◌, List, [], ◌∷◌, ◌++◌, length, Ok, Err, refl, sym, ap, subst, ◌∙◌, append_assoc, arith, nat_eq, ◌&&◌, ◌||◌, not, map, Option, Some, None}
-use Rattle.std.proofs.lemmas.Bool.{and_parts, eqb-true, ltb-true}
+use Rattle.std.proofs.lemmas.Bool.{and_parts, and_from, eqb-true, eq-eqb, ltb-true, true≢false}
 use Rattle.tla_ast.specs.declared.place.Place.{Place}
 use Rattle.tla_ast.specs.declared.tree.Node.{Node, out-Node}
 use Rattle.tla_ast.specs.declared.tree.Form.TheVariants as form
 use Rattle.tla_ast.specs.declared.tree.Decl.{Decl}
 use Rattle.tla_ast.specs.declared.tree.Group.{Group}
-use Rattle.tla_ast.specs.declared.tree.Def.{Def, roll-Def, out-Def}
+use Rattle.tla_ast.specs.declared.tree.Def.{Def, roll-Def}
 use Rattle.tla_ast.specs.declared.tree.Path.{Path, roll-Path}
 use Rattle.tla_ast.specs.declared.tree.Key.{Key}
 use Rattle.tla_ast.specs.declared.tree.Key.TheVariants as key
@@ -22,19 +23,18 @@ use Rattle.operator_chain.specs.declared.chain.Piece.{Piece}
 use Rattle.operator_chain.specs.declared.chain.Piece.TheVariants as piece
 use Rattle.layout_parser.specs.declared.mark.Mark.{Mark}
 use Rattle.layout_parser.specs.declared.mark.Mark.TheVariants as m
-use Rattle.layout_parser.specs.declared.setting.Around.{Around}
 use Rattle.layout_parser.specs.declared.setting.Around.TheVariants as around
 use Rattle.layout_parser.specs.declared.setting.Setting.{Setting}
 use Rattle.layout_parser.specs.declared.setting.Stop.TheVariants as stop
-use Rattle.layout_parser.specs.Marks.{Text, spelling, same_mark}
-use Rattle.layout_parser.specs.Input.{Tokens, Outcome, first, next, here, sees, sees_second, declared, and_then, ◌>>=◌, within, is_tuple, is_inside, mark, right_of, with_at, after}
+use Rattle.layout_parser.specs.Marks.{spelling, same_mark, mark_of}
+use Rattle.layout_parser.specs.Input.{Tokens, Outcome, first, next, here, sees, sees_second, declared, and_then, within, is_tuple, is_inside, mark, right_of, with_at, after}
 use Rattle.layout_parser.specs.Reading as rule
 use Rattle.layout_parser.specs.Reading.{Chain, ChainReader, part, behind, after_member, member_at, is_whole, is_tuple_form, with_field, with_update}
 use Rattle.layout_parser.specs.Spelling as spell
-use Rattle.layout_parser.specs.Spelling.{Symbols, sign, sign_at, expression, same, between, word, Operand, Subscript}
+use Rattle.layout_parser.specs.Spelling.{Stops, Symbols, sign, sign_at, expression, same, between, word, Operand, Subscript}
 use Rattle.layout_parser.proofs.ChainLaws.{member-listed}
 use Rattle.layout_parser.proofs.Belongs.{member-fits}
-use Rattle.layout_parser.proofs.Steps.{in-front, after-no, stands-at, marks-same, behind-sign, up-from, is_outside, at-any-place, none-after, on-token, on-operand, finish, got, refused, derived-as, subscribed-as, eaten, begun, by-test, by-reader, same-end, Read, Stands, stands, nothing, both, up-to, on-sign, on-sign-at, on-word, on-declared, on-name, on-eat, on-no, Good, ChainRead, on-finished, le, Derives, derived, Subscribes, subscribed, on-subscript}
+use Rattle.layout_parser.proofs.Steps.{on-no-bullet, same-marks, in-front, after-no, stands-at, marks-same, behind-sign, up-from, is_outside, at-any-place, none-after, on-token, on-operand, finish, got, refused, derived-as, subscribed-as, eaten, begun, by-test, by-reader, same-end, Read, Stands, stands, nothing, both, up-to, on-sign, on-sign-at, on-word, on-declared, on-eat, on-no, Good, ChainRead, on-finished, le, Derives, derived, Subscribes, subscribed}
 
 single : (x : Node) (xs : List Node) → nat_eq (length (x ∷ xs)) 1 ≡ true → xs ≡ []
 single x [] e = refl
@@ -48,15 +48,23 @@ empty : {A : Type 0} (xs : List A) → nat_eq (length xs) 0 ≡ true → xs ≡ 
 empty [] e = refl
 empty (x ∷ xs) e = let none : length (x ∷ xs) ≡ 0 = eqb-true _ 0 e in absurd (omega (arith, none))
 
+other-bullet : (column : ℕ) (k : Mark) (ts : Tokens) → (nat_eq (here ts).column column && same_mark (mark ts) k) ≡ false → mark_of (first ts).tok ≡ k → (here ts).column ≢ column
+unfolding mark
+other-bullet column k ts none marked at = true≢false (sym (and_from (nat_eq (here ts).column column) (same_mark (mark ts) k) (eq-eqb (here ts).column column at) (same-marks (mark ts) k marked)) ∙ none)
+
 below : {a b : ℕ} → nat_lt a b ≡ true → a ≤ b
 below {a} {b} e = let less : a < b = ltb-true a b e in omega arith
 
 module _ (left : ℕ) (inner : ChainReader) (law : OneRightTree) (good : Good inner) where
+  -- a chain that may have as many pieces as there are tokens
+  full : (n : ℕ) (s : Setting) (ts us : Tokens) (xs : List Piece) → length ts ≤ n → inner n s true ts ≡ (xs, Ok us) → ChainRead s true ts us xs × Stops s.region (first us)
+  full n s ts us xs room is = let h = good n s true ts us xs is in (h.0, h.1 room)
+
   -- an expression in a further nesting
   on-part : (s : Setting) {region : ℕ} {has_at : Bool} {ts mid rest : Tokens} {x : Node} {ys : Symbols} → region ≤ s.region → part left inner s ts ≡ Ok (x, mid)
       → Read region has_at mid rest ys → Read region has_at ts rest (expression s.region s.has_at x ∷ ys)
   unfolding part
-  on-part s {ts = ts} inside e r = on-finished law s (inner (length ts) s true ts) inside e (λ xs us is. good (length ts) s true ts us xs is) r
+  on-part s {ts = ts} inside e r = on-finished law s (inner (length ts) s true ts) inside e (λ xs us is. full (length ts) s ts us xs (le (length ts)) is) r
 
   on-same : (s : Setting) {ts mid rest : Tokens} {x : Node} {ys : Symbols} → part left inner s ts ≡ Ok (x, mid)
       → Read s.region s.has_at mid rest ys → Read s.region s.has_at ts rest (same s.region s.has_at x ∷ ys)
@@ -100,7 +108,7 @@ module _ (left : ℕ) (inner : ChainReader) (law : OneRightTree) (good : Good in
   unfolding rule.named
   named s ts rest n at e = by-test e
       (λ paren e1. got e1 (λ xs mid e2 f2. let h = arguments s (next ts) xs mid (stands s m.OpenParen (next ts) refl paren) e2 in
-          derived-as f2 (ap (λ l. rule.node (form.Call (spelling (first ts).tok)) l (here ts)) h.are) (spell.call (spelling (first ts).tok) h.head h.tail (here ts)) (on-word at h.read)))
+      derived-as f2 (ap (λ l. rule.node (form.Call (spelling (first ts).tok)) l (here ts)) h.are) (spell.call (spelling (first ts).tok) h.head h.tail (here ts)) (on-word at h.read)))
       (λ _ e1. derived e1 (spell.plain _ _ (spell.identifier _ _)) (on-word at nothing))
 
   parentheses : (s : Setting) (ts rest : Tokens) (n : Node) → Stands s.region m.OpenParen ts → rule.parenthesized left inner s ts ≡ Ok (n, rest)
@@ -114,9 +122,9 @@ module _ (left : ℕ) (inner : ChainReader) (law : OneRightTree) (good : Good in
   tuple s ts rest n at e = begun left _ _ e (λ f0. by-reader _ _ f0
       (λ close f1. subscribed f1 (spell.empty_tuple _) (on-sign-at at (on-eat (within around.Other s) refl close nothing)))
       (λ some f1. got f1 (λ xs mid e1 f2. let h = expressions (within around.Other s) [] _ xs mid e1 in
-          eaten (within around.Other s) stop.Expression m.CloseAngle _ refl f2 (λ close f3.
-          subscribed-as f3 (ap (λ l. rule.node form.Tuple l (here ts)) h.are) (spell.tuple h.head h.tail (here ts))
-              (on-sign-at at (on-no (within around.Other s) _ some (both h.read (on-sign close nothing))))))))
+      eaten (within around.Other s) stop.Expression m.CloseAngle _ refl f2 (λ close f3.
+      subscribed-as f3 (ap (λ l. rule.node form.Tuple l (here ts)) h.are) (spell.tuple h.head h.tail (here ts))
+      (on-sign-at at (on-no (within around.Other s) _ some (both h.read (on-sign close nothing))))))))
 
   subscript : (s : Setting) (ts rest : Tokens) (n : Node) → rule.subscript left inner s ts ≡ Ok (n, rest) → Subscribes s.region s.has_at ts rest n
   unfolding rule.subscript
@@ -132,8 +140,8 @@ module _ (left : ℕ) (inner : ChainReader) (law : OneRightTree) (good : Good in
   angle-end s ts mid rest n x xs at r e = by-test e
       (λ close e1. derived e1 (spell.plain _ _ (spell.tuple x xs (here ts))) (on-sign-at at (both r (on-sign (stands s m.CloseAngle mid refl close) nothing))))
       (λ _ e1. by-test {b = sees s m.CloseAction mid && nat_eq (length (x ∷ xs)) 1} e1 (λ act e2. got e2 (λ v t3 e3 f3. let h = subscript s (next mid) t3 v e3 in let none : xs ≡ [] = single x xs (and_parts _ _ act).1 in
-          derived-as f3 (ap (λ l. rule.node form.AngleAct ((x ∷ l) ++ v ∷ []) (here ts)) none) (spell.angle_action x v h.parts (here ts) h.made)
-              (on-sign-at at (both (subst (λ l. Read s.region s.has_at (next ts) mid (spell.expressions s.region s.has_at x l)) none r) (on-sign (stands s m.CloseAction mid refl (and_parts _ _ act).0) h.read)))))
+      derived-as f3 (ap (λ l. rule.node form.AngleAct ((x ∷ l) ++ v ∷ []) (here ts)) none) (spell.angle_action x v h.parts (here ts) h.made)
+      (on-sign-at at (both (subst (λ l. Read s.region s.has_at (next ts) mid (spell.expressions s.region s.has_at x l)) none r) (on-sign (stands s m.CloseAction mid refl (and_parts _ _ act).0) h.read)))))
       (λ _ e2. refused e2))
 
   angle : (s : Setting) (ts rest : Tokens) (n : Node) → Stands s.region m.OpenAngle ts → rule.angle left inner s ts ≡ Ok (n, rest) → Derives s.region s.has_at ts rest n
@@ -141,7 +149,7 @@ module _ (left : ℕ) (inner : ChainReader) (law : OneRightTree) (good : Good in
   angle s ts rest n at e = begun left _ _ e (λ f0. by-reader _ _ f0
       (λ close f1. derived f1 (spell.plain _ _ (spell.empty_tuple _)) (on-sign-at at (on-eat (within around.Other s) refl close nothing)))
       (λ some f1. got f1 (λ xs mid e1 f2. let h = expressions (within around.Other s) [] _ xs mid e1 in
-          angle-end s ts mid rest n h.head h.tail at (on-no (within around.Other s) _ some h.read) (subst (λ l. rule.angle_end left inner s (here ts) l mid ≡ Ok (n, rest)) h.are f2))))
+      angle-end s ts mid rest n h.head h.tail at (on-no (within around.Other s) _ some h.read) (subst (λ l. rule.angle_end left inner s (here ts) l mid ≡ Ok (n, rest)) h.are f2))))
 
   fair : (strong : Bool) (s : Setting) (ts rest : Tokens) (n : Node) → Stands s.region (spell.fair_mark strong) ts → rule.fair left inner strong s ts ≡ Ok (n, rest) → Derives s.region s.has_at ts rest n
   unfolding rule.fair
@@ -156,13 +164,13 @@ module _ (left : ℕ) (inner : ChainReader) (law : OneRightTree) (good : Good in
   unfolding rule.brace_end rule.image rule.elements
   brace-end s ts mid rest n x at r e = by-test {b = sees s m.Colon mid && not (is_tuple s.around)} e
       (λ colon e1. got e1 (λ d t2 e2 f2. eaten (within around.Colon s) stop.Other m.Belongs _ refl f2 (λ belongs f3. got f3 (λ set t4 e4 f4.
-          eaten (within around.Colon s) stop.Expression m.CloseBrace _ refl f4 (λ close f5.
-          derived f5 (spell.image d set x) (on-sign at (both r (on-sign (stands s m.Colon mid refl (and_parts _ _ colon).0)
-              (on-declared (within around.Colon s) stop.Bound e2 (on-sign belongs (on-same (within around.Colon s) e4 (on-sign close nothing))))))))))))
+      eaten (within around.Colon s) stop.Expression m.CloseBrace _ refl f4 (λ close f5.
+      derived f5 (spell.image d set x) (on-sign at (both r (on-sign (stands s m.Colon mid refl (and_parts _ _ colon).0)
+      (on-declared (within around.Colon s) stop.Bound e2 (on-sign belongs (on-same (within around.Colon s) e4 (on-sign close nothing))))))))))))
       (λ _ e1. by-test e1
       (λ comma e2. got e2 (λ xs t3 e3 f3. let h = expressions s (x ∷ []) (next mid) xs t3 e3 in eaten s stop.Expression m.CloseBrace _ refl f3 (λ close f4.
-          derived-as f4 (ap (λ l. rule.node form.Enum l (here ts)) h.are) (spell.enumeration x (h.head ∷ h.tail) (here ts))
-              (on-sign-at at (both r (on-sign (stands s m.Comma mid refl comma) (both h.read (on-sign close nothing))))))))
+      derived-as f4 (ap (λ l. rule.node form.Enum l (here ts)) h.are) (spell.enumeration x (h.head ∷ h.tail) (here ts))
+      (on-sign-at at (both r (on-sign (stands s m.Comma mid refl comma) (both h.read (on-sign close nothing))))))))
       (λ _ e2. by-test e2 (λ close e3. derived e3 (spell.enumeration x [] (here ts)) (on-sign-at at (both r (on-sign (stands s m.CloseBrace mid refl close) nothing))))
       (λ _ e3. refused e3)))
 
@@ -171,21 +179,21 @@ module _ (left : ℕ) (inner : ChainReader) (law : OneRightTree) (good : Good in
   with-member : (s : Setting) (ts us : Tokens) (xs : List Piece) → Stands s.region m.Name ts → Stands s.region m.Belongs (next ts) → ChainRead s true (next (next ts)) us xs
       → ChainRead s true ts us (piece.Operand (rule.node (form.Name (spelling (first ts).tok)) [] (here ts)) ∷ member_at (here (next ts)) ∷ xs)
   with-member s ts us xs at sign-at h = record {
-      whole = h.whole;
-      listed = (tt, (member-listed (here (next ts)), h.listed));
-      read = on-operand (spell.plain _ _ (spell.identifier _ _)) (on-word at nothing) (on-token sign-at.may (member-fits (first (next ts)) sign-at.marked) sign-at.some h.read)
-    }
+    whole = h.whole;
+    listed = (tt, (member-listed (here (next ts)), h.listed));
+    read = on-operand (spell.plain _ _ (spell.identifier _ _)) (on-word at nothing) (on-token sign-at.may (member-fits (first (next ts)) sign-at.marked) sign-at.some h.read);
+  }
 
   -- the chain of the set, and that of the expression that begins with the name
   set-chain : (s : Setting) (ts : Tokens) → Chain
   set-chain s ts = inner (length (next (next ts))) s true (next (next ts))
 
   member-chain : (s : Setting) (ts : Tokens) → Stands s.region m.Name ts → Stands s.region m.Belongs (next ts) → (xs : List Piece) (us : Tokens)
-      → after_member (spelling (first ts).tok) (here ts) (here (next ts)) (set-chain s ts) ≡ (xs, Ok us) → ChainRead s true ts us xs
+      → after_member (spelling (first ts).tok) (here ts) (here (next ts)) (set-chain s ts) ≡ (xs, Ok us) → ChainRead s true ts us xs × Stops s.region (first us)
   unfolding set-chain
   member-chain s ts at sign-at xs us is = let c = set-chain s ts in
-      subst (λ l. ChainRead s true ts us l) (ap (λ p. p.0) is)
-          (with-member s ts us c.0 at sign-at (good (length (next (next ts))) s true (next (next ts)) us c.0 (λ i. (c.0, (ap (λ p. p.1) is) i))))
+      let h = full (length (next (next ts))) s (next (next ts)) us c.0 (le (length (next (next ts)))) (λ i. (c.0, (ap (λ p. p.1) is) i)) in
+      (subst (λ l. ChainRead s true ts us l) (ap (λ p. p.0) is) (with-member s ts us c.0 at sign-at h.0), h.1)
 
   whole-sees : (s : Setting) (k : Mark) (c : Chain) (xs : List Piece) (us : Tokens) → c ≡ (xs, Ok us) → is_whole s k c ≡ true → sees s k us ≡ true
   whole-sees s k c xs us is w = (and_parts (sees s k us) _ (subst (λ d. is_whole s k d ≡ true) is w)).0
@@ -195,18 +203,20 @@ module _ (left : ℕ) (inner : ChainReader) (law : OneRightTree) (good : Good in
   unfolding rule.member_brace rule.filter set-chain
   member-brace s ts rest n at name-at sign-at e = let c = set-chain s (next ts) in by-test {b = is_whole s m.Colon c} e
       (λ whole e1. got e1 (λ set mid e2 f2. got f2 (λ condition t3 e3 f3. eaten (within around.Colon s) stop.Expression m.CloseBrace _ refl f3 (λ close f4.
-          derived f4 (spell.filter (spelling (first (next ts)).tok) set condition (here (next ts)))
-              (on-sign at (on-word name-at (on-sign sign-at (on-finished law s c (le s.region) e2 (λ xs us is. good _ s true _ us xs is)
-                  (on-sign (stands s m.Colon mid refl (whole-sees s m.Colon c c.0 mid (finish c set mid e2).chain whole)) (on-same (within around.Colon s) e3 (on-sign close nothing)))))))))))
+      derived f4 (spell.filter (spelling (first (next ts)).tok) set condition (here (next ts)))
+      (on-sign at (on-word name-at (on-sign sign-at (on-finished law s c (le s.region) e2 (λ xs us is. full _ s _ us xs (le _) is)
+      (on-sign (stands s m.Colon mid refl (whole-sees s m.Colon c c.0 mid (finish c set mid e2).chain whole)) (on-same (within around.Colon s) e3 (on-sign close nothing)))))))))))
       (λ _ e1. got e1 (λ x mid e2 f2. brace-end s ts mid rest n x at (on-finished law s _ (le s.region) e2 (member-chain s (next ts) name-at sign-at) nothing) f2))
 
   tuple-in : (s : Setting) (ts mid rest : Tokens) (n a : Node) → Stands s.region m.OpenBrace ts → Read s.region s.has_at (next ts) mid (spell.operand a ∷ [])
       → and_then (rule.finished (behind (piece.Operand a ∷ []) (inner (length mid) s false mid))) (rule.brace_end left inner s (here ts)) ≡ Ok (n, rest) → Derives s.region s.has_at ts rest n
   tuple-in s ts mid rest n a at r e = got e (λ x t2 e2 f2. brace-end s ts t2 rest n x at (on-finished law s _ (le s.region) e2 chain nothing) f2)
     where
-      chain : (xs : List Piece) (us : Tokens) → behind (piece.Operand a ∷ []) (inner (length mid) s false mid) ≡ (xs, Ok us) → ChainRead s true (next ts) us xs
-      chain xs us is = let c = inner (length mid) s false mid in let h = good (length mid) s false mid us c.0 (λ i. (c.0, (ap (λ p. p.1) is) i)) in
-          subst (λ l. ChainRead s true (next ts) us l) (ap (λ p. p.0) is) (let x : ChainRead s true (next ts) us (piece.Operand a ∷ c.0) = record { whole = h.whole; listed = (tt, h.listed); read = both r h.read } in x)
+      chain : (xs : List Piece) (us : Tokens) → behind (piece.Operand a ∷ []) (inner (length mid) s false mid) ≡ (xs, Ok us) → ChainRead s true (next ts) us xs × Stops s.region (first us)
+      chain xs us is = let c = inner (length mid) s false mid in let h = good (length mid) s false mid us c.0 (λ i. (c.0, (ap (λ p. p.1) is) i)) in (
+        subst (λ l. ChainRead s true (next ts) us l) (ap (λ p. p.0) is) (let x : ChainRead s true (next ts) us (piece.Operand a ∷ c.0) = record { whole = h.0.whole; listed = (tt, h.0.listed); read = both r h.0.read } in x),
+        h.1 (le (length mid)),
+      )
 
   tuple-brace-after : (s : Setting) (ts mid rest : Tokens) (n a : Node) → Stands s.region m.OpenBrace ts → Read s.region s.has_at (next ts) mid (spell.operand a ∷ [])
       → rule.tuple_brace_after left inner s (here ts) a mid ≡ Ok (n, rest) → Derives s.region s.has_at ts rest n
@@ -220,7 +230,7 @@ module _ (left : ℕ) (inner : ChainReader) (law : OneRightTree) (good : Good in
 
   tuple-brace : (s : Setting) (ts rest : Tokens) (n : Node) → Stands s.region m.OpenBrace ts → rule.tuple_brace left inner s (here ts) (next ts) ≡ Ok (n, rest) → Derives s.region s.has_at ts rest n
   unfolding rule.tuple_brace
-  tuple-brace s ts rest n at e = by-chain (inner 1 s true (next ts)) (λ xs us is. (good 1 s true (next ts) us xs is).read) e
+  tuple-brace s ts rest n at e = by-chain (inner 1 s true (next ts)) (λ xs us is. (good 1 s true (next ts) us xs is).0.read) e
     where
       by-chain : (c : Chain) → ((xs : List Piece) (us : Tokens) → c ≡ (xs, Ok us) → Read s.region s.has_at (next ts) us (spell.pieces s.region s.has_at xs)) → rule.tuple_brace_by left inner s (here ts) c ≡ Ok (n, rest)
           → Derives s.region s.has_at ts rest n
@@ -238,7 +248,7 @@ module _ (left : ℕ) (inner : ChainReader) (law : OneRightTree) (good : Good in
       (λ close f1. derived f1 (spell.empty_set (here ts)) (on-sign-at at (on-sign (stands (within around.Brace s) m.CloseBrace (next ts) refl close) nothing)))
       (λ _ f1. by-test {b = sees (within around.Brace s) m.Name (next ts) && sees (within around.Brace s) m.Belongs (next (next ts))} f1
       (λ both-seen f2. member-brace (within around.Brace s) ts rest n at (stands (within around.Brace s) m.Name (next ts) refl (and_parts _ _ both-seen).0)
-          (stands (within around.Brace s) m.Belongs (next (next ts)) refl (and_parts (sees (within around.Brace s) m.Name (next ts)) _ both-seen).1) f2)
+      (stands (within around.Brace s) m.Belongs (next (next ts)) refl (and_parts (sees (within around.Brace s) m.Name (next ts)) _ both-seen).1) f2)
       (λ _ f2. by-test f2 (λ _ f3. tuple-brace (within around.Brace s) ts rest n at f3)
       (λ _ f3. got f3 (λ x mid e4 f4. brace-end (within around.Brace s) ts mid rest n x at (on-same (within around.Brace s) e4 nothing) f4)))))
 
@@ -256,13 +266,19 @@ module _ (left : ℕ) (inner : ChainReader) (law : OneRightTree) (good : Good in
   fields-from zero s k found ts f rest kept e = refused e
   fields-from (suc n) s k found ts f rest kept e = got {o = declared s stop.Other ts} e (λ d t1 e1 f1. eaten s stop.Other k _ kept f1 (λ at f2. got f2 (λ x t3 e3 f3. by-reader _ _ f3
       (λ comma f4. let h = fields-from n s k (with_field found d x) _ f rest kept f4 in record {
-          head = (d, x); tail = h.head ∷ h.tail;
-          names = h.names ∙ append_assoc found.names (d.name ∷ []) (spell.names_of (h.head ∷ h.tail));
-          parts = h.parts ∙ append_assoc found.parts (rule.node (form.Name d.name) [] d.place ∷ x ∷ []) (spell.parts_of (h.head ∷ h.tail));
-          read = on-declared s _ e1 (on-sign at (on-same s e3 (on-eat s refl comma h.read))) })
+        head = (d, x);
+        tail = h.head ∷ h.tail;
+        names = h.names ∙ append_assoc found.names (d.name ∷ []) (spell.names_of (h.head ∷ h.tail));
+        parts = h.parts ∙ append_assoc found.parts (rule.node (form.Name d.name) [] d.place ∷ x ∷ []) (spell.parts_of (h.head ∷ h.tail));
+        read = on-declared s _ e1 (on-sign at (on-same s e3 (on-eat s refl comma h.read)));
+      })
       (λ none f4. let z = same-end _ _ _ _ f4 in record {
-          head = (d, x); tail = []; names = ap (λ g. g.names) (sym z.0); parts = ap (λ g. g.parts) (sym z.0);
-          read = on-declared s _ e1 (on-sign at (on-same s e3 (on-no s _ none (up-to z.1 nothing)))) }))))
+        head = (d, x);
+        tail = [];
+        names = ap (λ g. g.names) (sym z.0);
+        parts = ap (λ g. g.parts) (sym z.0);
+        read = on-declared s _ e1 (on-sign at (on-same s e3 (on-no s _ none (up-to z.1 nothing))));
+      }))))
 
   fields : (s : Setting) (k : Mark) (ts : Tokens) (f : Fields) (rest : Tokens) → is_outside k ≡ false → rule.fields left inner s k ts ≡ Ok (f, rest) → Fielded s k rule.no_fields f ts rest
   unfolding rule.fields
@@ -290,7 +306,7 @@ module _ (left : ℕ) (inner : ChainReader) (law : OneRightTree) (good : Good in
 
   key-of : (s : Setting) (ts rest : Tokens) (k : Key) → rule.key_of left inner s ts ≡ Ok (k, rest) → Read s.region s.has_at ts rest (spell.key_symbols s.region s.has_at k)
   unfolding rule.key_of
-  key-of s ts rest k e = by-test {b = sees s m.OpenSquare ts || sees s m.Dot ts} e (λ _ e1. by-chain (inner 1 s false ts) (λ xs us is. (good 1 s false ts us xs is).read) e1) (λ _ e1. refused e1)
+  key-of s ts rest k e = by-test {b = sees s m.OpenSquare ts || sees s m.Dot ts} e (λ _ e1. by-chain (inner 1 s false ts) (λ xs us is. (good 1 s false ts us xs is).0.read) e1) (λ _ e1. refused e1)
     where
       by-chain : (c : Chain) → ((xs : List Piece) (us : Tokens) → c ≡ (xs, Ok us) → Read s.region s.has_at ts us (spell.pieces s.region s.has_at xs)) → rule.by_key s c ≡ Ok (k, rest)
           → Read s.region s.has_at ts rest (spell.key_symbols s.region s.has_at k)
@@ -313,7 +329,11 @@ module _ (left : ℕ) (inner : ChainReader) (law : OneRightTree) (good : Good in
   keys-from zero s found ts ks rest e = refused e
   keys-from (suc n) s found ts ks rest e = got e (λ k mid e1 e2. by-test {b = sees s m.OpenSquare mid || sees s m.Dot mid} e2
       (λ more e3. let h = keys-from n s (found ++ k ∷ []) mid ks rest e3 in record {
-          head = k; tail = h.head ∷ h.tail; are = h.are ∙ append_assoc found (k ∷ []) (h.head ∷ h.tail); read = both (key-of s ts mid k e1) h.read })
+        head = k;
+        tail = h.head ∷ h.tail;
+        are = h.are ∙ append_assoc found (k ∷ []) (h.head ∷ h.tail);
+        read = both (key-of s ts mid k e1) h.read;
+      })
       (λ none e3. let z = same-end _ _ _ _ e3 in record { head = k; tail = []; are = sym z.0; read = both (key-of s ts mid k e1) (up-to z.1 nothing) }))
 
   keys : (s : Setting) (ts : Tokens) (ks : List Key) (rest : Tokens) → rule.keys left inner s ts ≡ Ok (ks, rest) → Keyed s [] ks ts rest
@@ -330,8 +350,11 @@ module _ (left : ℕ) (inner : ChainReader) (law : OneRightTree) (good : Good in
   unfolding rule.update
   update s ts u rest e = eaten s stop.Other m.Bang _ refl e (λ bang f0. got f0 (λ ks t1 e1 f1. let h = keys s _ ks t1 e1 in eaten s stop.Other m.Equal _ refl f1 (λ equal f2. got f2 (λ x t3 e3 f3.
       let z = same-end _ _ _ _ f3 in record {
-        update = (h.head, h.tail, x); path = ap (λ p. p.0) (sym z.0) ∙ ap (λ l. roll-Path (record { keys = l })) h.are; value = ap (λ p. p.1) (sym z.0);
-        read = on-sign bang (both h.read (on-sign equal (on-part (with_at s) (le s.region) e3 (up-to z.1 nothing)))) }))))
+        update = (h.head, h.tail, x);
+        path = ap (λ p. p.0) (sym z.0) ∙ ap (λ l. roll-Path (record { keys = l })) h.are;
+        value = ap (λ p. p.1) (sym z.0);
+        read = on-sign bang (both h.read (on-sign equal (on-part (with_at s) (le s.region) e3 (up-to z.1 nothing))));
+      }))))
 
   record Revised (s : Setting) (found us : Updates) (ts rest : Tokens) : Type 0 where
     pub head : spell.Update
@@ -345,15 +368,19 @@ module _ (left : ℕ) (inner : ChainReader) (law : OneRightTree) (good : Good in
   updates-from zero s found ts us rest e = refused e
   updates-from (suc n) s found ts us rest e = got e (λ u mid e1 e2. let one = update s ts u mid e1 in by-reader _ _ e2
       (λ comma e3. let h = updates-from n s (with_update found u.0 u.1) _ us rest e3 in record {
-          head = one.update; tail = h.head ∷ h.tail;
-          paths = h.paths ∙ append_assoc found.paths (u.0 ∷ []) (spell.paths_of (h.head ∷ h.tail)) ∙ ap (λ p. found.paths ++ p ∷ spell.paths_of (h.head ∷ h.tail)) one.path;
-          parts = h.parts ∙ append_assoc found.parts (u.1 ∷ []) (spell.values_of (h.head ∷ h.tail)) ∙ ap (λ v. found.parts ++ v ∷ spell.values_of (h.head ∷ h.tail)) one.value;
-          read = both one.read (on-eat s refl comma h.read) })
+        head = one.update;
+        tail = h.head ∷ h.tail;
+        paths = h.paths ∙ append_assoc found.paths (u.0 ∷ []) (spell.paths_of (h.head ∷ h.tail)) ∙ ap (λ p. found.paths ++ p ∷ spell.paths_of (h.head ∷ h.tail)) one.path;
+        parts = h.parts ∙ append_assoc found.parts (u.1 ∷ []) (spell.values_of (h.head ∷ h.tail)) ∙ ap (λ v. found.parts ++ v ∷ spell.values_of (h.head ∷ h.tail)) one.value;
+        read = both one.read (on-eat s refl comma h.read);
+      })
       (λ none e3. let z = same-end _ _ _ _ e3 in record {
-          head = one.update; tail = [];
-          paths = ap (λ w. w.paths) (sym z.0) ∙ ap (λ p. found.paths ++ p ∷ []) one.path;
-          parts = ap (λ w. w.parts) (sym z.0) ∙ ap (λ v. found.parts ++ v ∷ []) one.value;
-          read = up-to z.1 (none-after s _ none one.read) }))
+        head = one.update;
+        tail = [];
+        paths = ap (λ w. w.paths) (sym z.0) ∙ ap (λ p. found.paths ++ p ∷ []) one.path;
+        parts = ap (λ w. w.parts) (sym z.0) ∙ ap (λ v. found.parts ++ v ∷ []) one.value;
+        read = up-to z.1 (none-after s _ none one.read);
+      }))
 
   updates : (s : Setting) (f : Node) (ts : Tokens) (us : Updates) (rest : Tokens) → rule.updates left inner s f ts ≡ Ok (us, rest) → Revised s (rule.no_updates f) us ts rest
   unfolding rule.updates
@@ -364,14 +391,14 @@ module _ (left : ℕ) (inner : ChainReader) (law : OneRightTree) (good : Good in
   unfolding rule.square_end rule.function_set rule.except
   square-end s ts mid rest n x at r e = by-test e
       (λ act e1. got e1 (λ v t2 e2 f2. let h = subscript s (next mid) t2 v e2 in
-          derived f2 (spell.box_action x v h.parts (here ts) h.made) (on-sign-at at (both r (on-sign (stands s m.CloseBox mid refl act) h.read)))))
+      derived f2 (spell.box_action x v h.parts (here ts) h.made) (on-sign-at at (both r (on-sign (stands s m.CloseBox mid refl act) h.read)))))
       (λ _ e1. by-test e1
       (λ arrow e2. got e2 (λ y t3 e3 f3. eaten s stop.Expression m.CloseSquare _ refl f3 (λ close f4.
-          derived f4 (spell.function_set x y (here ts)) (on-sign-at at (both r (on-sign (stands s m.Arrow mid refl arrow) (on-same s e3 (on-sign close nothing))))))))
+      derived f4 (spell.function_set x y (here ts)) (on-sign-at at (both r (on-sign (stands s m.Arrow mid refl arrow) (on-same s e3 (on-sign close nothing))))))))
       (λ _ e2. by-test e2
       (λ word-seen e3. got e3 (λ us t4 e4 f4. let h = updates s x (next mid) us t4 e4 in eaten s stop.Expression m.CloseSquare _ refl f4 (λ close f5.
-          derived-as f5 (λ i. rule.node (form.Except (h.paths i)) (h.parts i) (here ts)) (spell.except x h.head h.tail (here ts))
-              (on-sign-at at (both r (on-sign (stands s m.Except mid refl word-seen) (both h.read (on-sign close nothing))))))))
+      derived-as f5 (λ i. rule.node (form.Except (h.paths i)) (h.parts i) (here ts)) (spell.except x h.head h.tail (here ts))
+      (on-sign-at at (both r (on-sign (stands s m.Except mid refl word-seen) (both h.read (on-sign close nothing))))))))
       (λ _ e3. refused e3)))
 
   member-square : (s : Setting) (ts rest : Tokens) (n : Node) → Stands s.region m.OpenSquare ts → Stands s.region m.Name (next ts) → Stands s.region m.Belongs (next (next ts))
@@ -379,9 +406,9 @@ module _ (left : ℕ) (inner : ChainReader) (law : OneRightTree) (good : Good in
   unfolding rule.member_square rule.function set-chain
   member-square s ts rest n at name-at sign-at e = let c = set-chain s (next ts) in by-test {b = is_whole s m.Maps c} e
       (λ whole e1. got e1 (λ set mid e2 f2. got f2 (λ x t3 e3 f3. eaten s stop.Expression m.CloseSquare _ refl f3 (λ close f4.
-          derived f4 (spell.function (spelling (first (next ts)).tok) set x (here (next ts)))
-              (on-sign at (on-word name-at (on-sign sign-at (on-finished law s c (le s.region) e2 (λ xs us is. good _ s true _ us xs is)
-                  (on-sign (stands s m.Maps mid refl (whole-sees s m.Maps c c.0 mid (finish c set mid e2).chain whole)) (on-same s e3 (on-sign close nothing)))))))))))
+      derived f4 (spell.function (spelling (first (next ts)).tok) set x (here (next ts)))
+      (on-sign at (on-word name-at (on-sign sign-at (on-finished law s c (le s.region) e2 (λ xs us is. full _ s _ us xs (le _) is)
+      (on-sign (stands s m.Maps mid refl (whole-sees s m.Maps c c.0 mid (finish c set mid e2).chain whole)) (on-same s e3 (on-sign close nothing)))))))))))
       (λ _ e1. got e1 (λ x mid e2 f2. square-end s ts mid rest n x at (on-finished law s _ (le s.region) e2 (member-chain s (next ts) name-at sign-at) nothing) f2))
 
   square-name : (s : Setting) (ts rest : Tokens) (n : Node) → Stands s.region m.OpenSquare ts → Stands s.region m.Name (next ts) → rule.square_name left inner s (here ts) (next ts) ≡ Ok (n, rest) → Derives s.region s.has_at ts rest n
@@ -439,13 +466,13 @@ module _ (left : ℕ) (inner : ChainReader) (law : OneRightTree) (good : Good in
   after-name s names is_first ts a mid e = by-test {b = sees s m.Comma ts} e (λ comma e1. followed s names is_first ts mid _ _ a e1 (a_name (on-sign (stands s m.Comma ts refl comma) nothing)))
       (λ _ e1. by-test {b = sees s m.Belongs ts} e1
       (λ belongs e2. got {o = and_then (part left inner s (next ts)) (λ x us. Ok (rule.group names (Some x), us))} e2 (λ g t3 e3 f3. got {o = part left inner s (next ts)} e3 (λ x t4 e4 f4. let z = same-end _ g t4 t3 f4 in
-          let at : Stands s.region m.Belongs ts = stands s m.Belongs ts refl belongs in by-test {b = sees s m.Comma t3} f3
-          (λ comma f5. followed s names is_first ts mid _ _ a f5 (subst (λ y. Followed s names is_first ts (next t3) (after_bound.Group y)) z.0
-              (a_group x (on-sign at (on-same s e4 (up-from z.1 (on-sign (stands s m.Comma t3 refl comma) nothing)))))))
-          (λ _ f5. by-test {b = sees s m.Colon t3} f5
-          (λ colon f6. followed s names is_first ts mid _ _ a f6 (subst (λ y. Followed s names is_first ts (next t3) (after_bound.Last y)) z.0
-              (last_group x (on-sign at (on-same s e4 (up-from z.1 (on-sign (stands s m.Colon t3 refl colon) nothing)))))))
-          (λ _ f6. refused f6)))))
+      let at : Stands s.region m.Belongs ts = stands s m.Belongs ts refl belongs in by-test {b = sees s m.Comma t3} f3
+      (λ comma f5. followed s names is_first ts mid _ _ a f5 (subst (λ y. Followed s names is_first ts (next t3) (after_bound.Group y)) z.0
+      (a_group x (on-sign at (on-same s e4 (up-from z.1 (on-sign (stands s m.Comma t3 refl comma) nothing)))))))
+      (λ _ f5. by-test {b = sees s m.Colon t3} f5
+      (λ colon f6. followed s names is_first ts mid _ _ a f6 (subst (λ y. Followed s names is_first ts (next t3) (after_bound.Last y)) z.0
+      (last_group x (on-sign at (on-same s e4 (up-from z.1 (on-sign (stands s m.Colon t3 refl colon) nothing)))))))
+      (λ _ f6. refused f6)))))
       (λ _ e2. by-test {b = sees s m.Colon ts && is_first} e2
       (λ last e3. followed s names is_first ts mid _ _ a e3 (last_free (and_parts (sees s m.Colon ts) is_first last).1 (on-sign (stands s m.Colon ts refl (and_parts _ is_first last).0) nothing)))
       (λ _ e3. refused e3)))
@@ -465,7 +492,7 @@ module _ (left : ℕ) (inner : ChainReader) (law : OneRightTree) (good : Good in
   groups-from zero s gs found ts out rest e = refused e
   groups-from (suc n) s gs found ts out rest e = got {o = and_then (declared s stop.Bound ts) (λ d us. rule.after_name left inner s (found ++ d ∷ []) (nat_eq (length gs) 0) us)} e (λ a mid e1 f1.
       got {o = declared s stop.Bound ts} e1 (λ d t2 e2 f2. by-followed n s gs found d ts t2 mid out rest a (groups-from n s) (λ l ys r. on-declared s stop.Bound e2 r)
-          (after-name s (found ++ d ∷ []) (nat_eq (length gs) 0) t2 a mid f2) f1))
+      (after-name s (found ++ d ∷ []) (nat_eq (length gs) 0) t2 a mid f2) f1))
 
   groups : (s : Setting) (ts : Tokens) (out : List Group) (rest : Tokens) → rule.groups left inner s ts ≡ Ok (out, rest) → Grouped s [] [] out ts rest
   unfolding rule.groups
@@ -489,9 +516,9 @@ module _ (left : ℕ) (inner : ChainReader) (law : OneRightTree) (good : Good in
   unfolding rule.domain
   domain s ts set rest e = by-test {b = sees s m.Belongs ts} e
       (λ belongs e1. got {o = part left inner s (next ts)} e1 (λ x t2 e2 f2. eaten s stop.Expression m.Colon _ refl f2 (λ colon f3. let z = same-end (Some x) set _ rest f3 in
-          subst (λ o. Domained s o ts rest) z.0 (record { read = on-sign (stands s m.Belongs ts refl belongs) (on-same s e2 (on-sign colon (up-to z.1 nothing))) }))))
+      subst (λ o. Domained s o ts rest) z.0 (record { read = on-sign (stands s m.Belongs ts refl belongs) (on-same s e2 (on-sign colon (up-to z.1 nothing))) }))))
       (λ _ e1. eaten s stop.Other m.Colon _ refl e1 (λ colon f2. let z = same-end None set _ rest f2 in
-          subst (λ o. Domained s o ts rest) z.0 (record { read = on-sign colon (up-to z.1 nothing) })))
+      subst (λ o. Domained s o ts rest) z.0 (record { read = on-sign colon (up-to z.1 nothing) })))
 
   choose : (s : Setting) (ts rest : Tokens) (n : Node) → Stands s.region m.Choose ts → rule.choose left inner s ts ≡ Ok (n, rest) → Derives s.region s.has_at ts rest n
   unfolding rule.choose
@@ -531,11 +558,11 @@ module _ (left : ℕ) (inner : ChainReader) (law : OneRightTree) (good : Good in
   arms-from zero s found ts out rest e = refused e
   arms-from (suc n) s found ts out rest e = got {o = rule.arm left inner s ts} e (λ a t1 e1 f1. let one = arm s ts a t1 e1 in by-reader {b = sees s m.Always t1} _ _ f1
       (λ always f2. by-reader {b = sees s m.Other (after s m.Always t1)} _ _ f2
-          (λ other f3. eaten s stop.Other m.Arrow _ refl f3 (λ arrow f4. got {o = part left inner s (next (after s m.Other (after s m.Always t1)))} f4 (λ x t5 e5 f5. let z = same-end _ out t5 rest f5 in
-              with_other a [] x (sym z.0 ∙ ap (λ l. record { parts = l; other = true }) (append_assoc found (a.0 ∷ a.1 ∷ []) (x ∷ [])))
-                  (both one (on-eat s refl always (on-eat s refl other (on-sign arrow (on-same s e5 (up-to z.1 nothing)))))))))
-          (λ plain-arm f3. one-arm s found a out ts _ rest (both one (on-eat s refl always nothing)) (arms-from n s (found ++ a.0 ∷ a.1 ∷ []) (after s m.Always t1) out rest
-              (subst (λ l. rule.arms_from left inner n s (found ++ a.0 ∷ a.1 ∷ []) l ≡ Ok (out, rest)) (after-no s m.Other (after s m.Always t1) plain-arm) f3))))
+      (λ other f3. eaten s stop.Other m.Arrow _ refl f3 (λ arrow f4. got {o = part left inner s (next (after s m.Other (after s m.Always t1)))} f4 (λ x t5 e5 f5. let z = same-end _ out t5 rest f5 in
+      with_other a [] x (sym z.0 ∙ ap (λ l. record { parts = l; other = true }) (append_assoc found (a.0 ∷ a.1 ∷ []) (x ∷ [])))
+      (both one (on-eat s refl always (on-eat s refl other (on-sign arrow (on-same s e5 (up-to z.1 nothing)))))))))
+      (λ plain-arm f3. one-arm s found a out ts _ rest (both one (on-eat s refl always nothing)) (arms-from n s (found ++ a.0 ∷ a.1 ∷ []) (after s m.Always t1) out rest
+      (subst (λ l. rule.arms_from left inner n s (found ++ a.0 ∷ a.1 ∷ []) l ≡ Ok (out, rest)) (after-no s m.Other (after s m.Always t1) plain-arm) f3))))
       (λ none f2. let z = same-end _ out _ rest f2 in plain_arms a [] (sym z.0) (up-to z.1 (none-after s _ none one))))
 
   arms : (s : Setting) (ts : Tokens) (out : Arms) (rest : Tokens) → rule.arms left inner s ts ≡ Ok (out, rest) → Armed s [] out ts rest
@@ -563,7 +590,11 @@ module _ (left : ℕ) (inner : ChainReader) (law : OneRightTree) (good : Good in
   parameters-from zero s found ts ds rest e = refused e
   parameters-from (suc n) s found ts ds rest e = got {o = declared s stop.Other ts} e (λ d t1 e1 f1. by-reader {b = sees s m.Comma t1} _ _ f1
       (λ comma f2. let h = parameters-from n s (found ++ d ∷ []) _ ds rest f2 in record {
-          head = d; tail = h.head ∷ h.tail; are = h.are ∙ append_assoc found (d ∷ []) (h.head ∷ h.tail); read = on-declared s stop.Other e1 (on-eat s refl comma h.read) })
+        head = d;
+        tail = h.head ∷ h.tail;
+        are = h.are ∙ append_assoc found (d ∷ []) (h.head ∷ h.tail);
+        read = on-declared s stop.Other e1 (on-eat s refl comma h.read);
+      })
       (λ none f2. let z = same-end _ ds _ rest f2 in record { head = d; tail = []; are = sym z.0; read = on-declared s stop.Other e1 (on-no s _ none (up-to z.1 nothing)) }))
 
   parameter-list : (s : Setting) (ts : Tokens) (ds : List Decl) (rest : Tokens) → rule.parameter_list s ts ≡ Ok (ds, rest) → Parametered s [] ds ts rest
@@ -581,9 +612,9 @@ module _ (left : ℕ) (inner : ChainReader) (law : OneRightTree) (good : Good in
   unfolding rule.head
   head s ts ds rest e = by-test {b = sees s m.OpenParen ts} e
       (λ paren e1. got {o = rule.parameters left inner s ts} e1 (λ xs t2 e2 f2. eaten s stop.Other m.Defines _ refl f2 (λ defines f3. let z = same-end xs ds _ rest f3 in
-          subst (λ l. Read s.region s.has_at ts rest (spell.parameters l ++ sign m.Defines ∷ [])) z.0 (both (parameters s ts xs t2 (stands s m.OpenParen ts refl paren) e2) (on-sign defines (up-to z.1 nothing))))))
+      subst (λ l. Read s.region s.has_at ts rest (spell.parameters l ++ sign m.Defines ∷ [])) z.0 (both (parameters s ts xs t2 (stands s m.OpenParen ts refl paren) e2) (on-sign defines (up-to z.1 nothing))))))
       (λ _ e1. eaten s stop.Defined m.Defines _ refl e1 (λ defines f2. let z = same-end [] ds _ rest f2 in
-          subst (λ l. Read s.region s.has_at ts rest (spell.parameters l ++ sign m.Defines ∷ [])) z.0 (on-sign defines (up-to z.1 nothing))))
+      subst (λ l. Read s.region s.has_at ts rest (spell.parameters l ++ sign m.Defines ∷ [])) z.0 (on-sign defines (up-to z.1 nothing))))
 
   record OneDefined (s : Setting) (d : Def) (ts rest : Tokens) : Type 0 where
     pub def : spell.Definition
@@ -594,8 +625,10 @@ module _ (left : ℕ) (inner : ChainReader) (law : OneRightTree) (good : Good in
   unfolding rule.definition
   definition s ts d rest e = got {o = declared s stop.Other ts} e (λ x t1 e1 f1. got {o = rule.head left inner s t1} f1 (λ ds t2 e2 f2. got {o = part left inner s t2} f2 (λ body t3 e3 f3.
       let z = same-end (roll-Def (record { name = x.name; params = ds; body = body; place = x.place })) d t3 rest f3 in record {
-        def = (x, ds, body); is = sym z.0;
-        read = on-declared s stop.Other e1 (behind-sign (spell.parameters ds) (sign m.Defines) (head s t1 ds t2 e2) (on-same s e3 (up-to z.1 nothing))) })))
+        def = (x, ds, body);
+        is = sym z.0;
+        read = on-declared s stop.Other e1 (behind-sign (spell.parameters ds) (sign m.Defines) (head s t1 ds t2 e2) (on-same s e3 (up-to z.1 nothing)));
+      })))
 
   record Defined (s : Setting) (found ds : List Def) (ts rest : Tokens) : Type 0 where
     pub head : spell.Definition
@@ -608,12 +641,17 @@ module _ (left : ℕ) (inner : ChainReader) (law : OneRightTree) (good : Good in
   definitions-from zero s found ts ds rest e = refused e
   definitions-from (suc n) s found ts ds rest e = got {o = rule.definition left inner s ts} e (λ d t1 e1 f1. let one = definition s ts d t1 e1 in by-test {b = sees s m.Name t1} f1
       (λ more f2. let h = definitions-from n s (found ++ d ∷ []) t1 ds rest f2 in record {
-          head = one.def; tail = h.head ∷ h.tail;
-          are = h.are ∙ append_assoc found (d ∷ []) (map spell.def_of (h.head ∷ h.tail)) ∙ ap (λ q. found ++ q ∷ map spell.def_of (h.head ∷ h.tail)) one.is;
-          read = in-front (sign m.In) (spell.definition s.region s.has_at one.def) (spell.definitions s.region s.has_at (h.head ∷ h.tail)) one.read h.read })
+        head = one.def;
+        tail = h.head ∷ h.tail;
+        are = h.are ∙ append_assoc found (d ∷ []) (map spell.def_of (h.head ∷ h.tail)) ∙ ap (λ q. found ++ q ∷ map spell.def_of (h.head ∷ h.tail)) one.is;
+        read = in-front (sign m.In) (spell.definition s.region s.has_at one.def) (spell.definitions s.region s.has_at (h.head ∷ h.tail)) one.read h.read;
+      })
       (λ none f2. eaten s stop.Expression m.In _ refl f2 (λ in-seen f3. let z = same-end _ ds _ rest f3 in record {
-          head = one.def; tail = []; are = sym z.0 ∙ ap (λ q. found ++ q ∷ []) one.is;
-          read = in-front (sign m.In) (spell.definition s.region s.has_at one.def) [] one.read (on-sign in-seen (up-to z.1 nothing)) })))
+        head = one.def;
+        tail = [];
+        are = sym z.0 ∙ ap (λ q. found ++ q ∷ []) one.is;
+        read = in-front (sign m.In) (spell.definition s.region s.has_at one.def) [] one.read (on-sign in-seen (up-to z.1 nothing));
+      })))
 
   definitions : (s : Setting) (ts : Tokens) (ds : List Def) (rest : Tokens) → rule.definitions left inner s ts ≡ Ok (ds, rest) → Defined s [] ds ts rest
   unfolding rule.definitions
@@ -623,7 +661,7 @@ module _ (left : ℕ) (inner : ChainReader) (law : OneRightTree) (good : Good in
   unfolding rule.local
   local s ts rest n at e = got {o = rule.definitions left inner s (next ts)} e (λ ds t1 e1 f1. got f1 (λ body t2 e2 f2. let h = definitions s (next ts) ds t1 e1 in
       derived-as f2 (ap (λ l. rule.node (form.Let l) (body ∷ []) (here ts)) h.are) (spell.local h.head h.tail body (here ts))
-          (on-sign-at at (behind-sign (spell.definitions s.region s.has_at (h.head ∷ h.tail)) (sign m.In) h.read (on-same s e2 nothing)))))
+      (on-sign-at at (behind-sign (spell.definitions s.region s.has_at (h.head ∷ h.tail)) (sign m.In) h.read (on-same s e2 nothing)))))
 
   -- ---- junction lists
 
@@ -640,12 +678,15 @@ module _ (left : ℕ) (inner : ChainReader) (law : OneRightTree) (good : Good in
   items-from zero region s k found ts xs rest kept over e = refused e
   items-from (suc n) region s k found ts xs rest kept over e = got e (λ x mid e1 e2. by-test {b = nat_eq (here mid).column s.region && same_mark (mark mid) k} e2
       (λ more e3. let h = items-from n region s k (found ++ x ∷ []) mid xs rest kept over e3 in
-          let column : (here mid).column ≡ s.region = eqb-true _ _ (and_parts (nat_eq (here mid).column s.region) _ more).0 in
-          let bullet : Stands region k mid = stands-at region k mid kept (subst (λ c. nat_lt region c ≡ true) (sym column) over) (marks-same (mark mid) k (and_parts (nat_eq (here mid).column s.region) _ more).1) in
-          record {
-          head = x; tail = h.head ∷ h.tail; are = h.are ∙ append_assoc found (x ∷ []) (h.head ∷ h.tail);
-          read = on-part s (below over) e1 (on-token bullet.may (bullet.marked, column) bullet.some h.read) })
-      (λ none e3. let z = same-end _ xs mid rest e3 in record { head = x; tail = []; are = sym z.0; read = on-part s (below over) e1 (up-to z.1 nothing) }))
+      let column : (here mid).column ≡ s.region = eqb-true _ _ (and_parts (nat_eq (here mid).column s.region) _ more).0 in
+      let bullet : Stands region k mid = stands-at region k mid kept (subst (λ c. nat_lt region c ≡ true) (sym column) over) (marks-same (mark mid) k (and_parts (nat_eq (here mid).column s.region) _ more).1) in
+      record {
+        head = x;
+        tail = h.head ∷ h.tail;
+        are = h.are ∙ append_assoc found (x ∷ []) (h.head ∷ h.tail);
+        read = on-part s (below over) e1 (on-token bullet.may (bullet.marked, column) bullet.some h.read);
+      })
+      (λ none e3. let z = same-end _ xs mid rest e3 in record { head = x; tail = []; are = sym z.0; read = on-part s (below over) e1 (on-no-bullet (other-bullet s.region k mid none) (up-to z.1 nothing)) }))
 
   items : (region : ℕ) (s : Setting) (k : Mark) (ts : Tokens) (xs : List Node) (rest : Tokens) → is_outside k ≡ false → nat_lt region s.region ≡ true
       → rule.items left inner s k ts ≡ Ok (xs, rest) → Itemed region s k [] xs ts rest
@@ -709,4 +750,4 @@ module _ (left : ℕ) (inner : ChainReader) (law : OneRightTree) (good : Good in
   unfolding rule.index
   index s ts rest n at e = begun left _ _ e (λ f0. got f0 (λ x t1 e1 f1. eaten (within around.Square s) stop.Expression m.CloseSquare _ refl f1 (λ close f2. let z = same-end x n _ rest f2 in
       subst (λ y. Read s.region s.has_at ts rest (sign_at m.OpenSquare (here ts) ∷ same s.region s.has_at y ∷ sign m.CloseSquare ∷ [])) z.0
-          (on-sign-at at (on-same (within around.Square s) e1 (on-sign close (up-to z.1 nothing)))))))
+      (on-sign-at at (on-same (within around.Square s) e1 (on-sign close (up-to z.1 nothing)))))))

@@ -1,7 +1,8 @@
 -- What a reader has used, step by step.
-use Rattle.std.proofs.Common.{◌≡◌, ℕ, zero, suc, ◌≤◌, Bool, true, false, if◌then◌else◌, ◌&&◌, nat_lt, Result, List, [], ◌∷◌, ◌++◌, Option, Some, None, Ok, Err, refl, sym, subst, ap, ◌∙◌, append_assoc, arith, rules}
-use Rattle.std.proofs.lemmas.Bool.{true≢false, false≢true, and_parts}
-use denote.Enum.Bare.{same_true}
+use Rattle.std.specs.Prelude.{◌≢◌}
+use Rattle.std.proofs.Common.{length, ◌≡◌, ℕ, zero, suc, ◌≤◌, Bool, true, false, if◌then◌else◌, nat_lt, Result, List, [], ◌∷◌, ◌++◌, Option, Some, None, Ok, Err, refl, sym, subst, ap, ◌∙◌, append_assoc, arith, rules}
+use Rattle.std.proofs.lemmas.Bool.{true≢false, and_parts}
+use denote.Enum.Bare.{same_true, true_same}
 use Rattle.std.proofs.lemmas.Option.{none-some}
 use Rattle.tla_ast.specs.declared.place.Place.{Place}
 use Rattle.tla_ast.specs.declared.token.Token.{Token}
@@ -17,7 +18,7 @@ use Rattle.layout_parser.specs.declared.mark.Mark.TheVariants as m
 use Rattle.layout_parser.specs.declared.setting.Setting.{Setting}
 use Rattle.layout_parser.specs.declared.setting.Stop.{Stop}
 use Rattle.layout_parser.specs.Marks.{Text, mark_of, spelling, same_mark}
-use Rattle.layout_parser.specs.Input.{Tokens, Outcome, Reader, and_then, ◌>>=◌, ◌>>◌, first, next, here, mark, is_inside, sees, expect, name, declared, refusal, opening, eat, after}
+use Rattle.layout_parser.specs.Input.{Tokens, Outcome, Reader, and_then, ◌>>=◌, ◌>>◌, first, next, here, mark, sees, expect, name, declared, opening, after}
 use Rattle.std_names.specs.declared.operators.Fix.{Fix}
 use Rattle.std_names.specs.declared.operators.Fix.TheVariants.{Prefix, Infix, Postfix}
 use Rattle.std_names.specs.Operators.{operator, prefix_rows, infix_rows, postfix_rows}
@@ -27,7 +28,7 @@ use Rattle.operator_chain.specs.Tree.{Tree, node_of, flat, is_right}
 use Rattle.operator_chain.specs.Chain.{IsWhole, OneRightTree, tree_of, fault_of}
 use Rattle.operator_chain.specs.Listed.{AreListed}
 use Rattle.layout_parser.specs.Reading.{Chain, ChainReader, operator_at, operator_in, finished, by_tree}
-use Rattle.layout_parser.specs.Spelling.{Symbol, sign, sign_at, word, field_name, operand, operator_sign, expression, Symbols, Fits, MayUse, Operand, Subscript, pieces, Spelled, none, token, of_operand, of_tree}
+use Rattle.layout_parser.specs.Spelling.{no_bullet, of_no_bullet, Stops, Symbol, sign, sign_at, word, field_name, operand, operator_sign, expression, Symbols, Fits, MayUse, Operand, Subscript, pieces, Spelled, none, token, of_operand, of_tree}
 use Rattle.layout_parser.specs.Spelling as spell
 
 -- ---- outcomes
@@ -49,6 +50,7 @@ same-end {A = A} a b ts us e = (ap (λ p. p.0) pair, ap (λ p. p.1) pair)
     of_ok : Outcome A → A × Tokens
     of_ok (Ok p) = p
     of_ok (Err x) = (a, ts)
+
     pair : (let p : A × Tokens = (a, ts) in p) ≡ (b, us)
     pair = ap of_ok e
 
@@ -62,7 +64,7 @@ by-test {b = false} e yes-case no-case = no-case refl e
 pub record Read (region : ℕ) (has_at : Bool) (ts rest : Tokens) (ys : Symbols) : Type 0 where
   pub used : Tokens
   pub is : ts ≡ used ++ rest
-  pub spelled : Spelled region has_at ys used
+  pub spelled : Spelled region has_at ys used rest
 
 -- the next token lies in the region, has this mark and ends no list
 pub record Stands (region : ℕ) (k : Mark) (ts : Tokens) : Type 0 where
@@ -86,6 +88,10 @@ not-empty (t ∷ ts) h = refl
 pub marks-same : (a b : Mark) → same_mark a b ≡ true → a ≡ b
 unfolding same_mark
 marks-same a b e = same_true the_type (search rules) a b e
+
+pub same-marks : (a b : Mark) → a ≡ b → same_mark a b ≡ true
+unfolding same_mark
+same-marks a b e = true_same the_type a b e
 
 pub stands-at : (region : ℕ) (k : Mark) (ts : Tokens) → is_outside k ≡ false → nat_lt region (here ts).column ≡ true → mark ts ≡ k → Stands region k ts
 unfolding mark
@@ -116,16 +122,31 @@ pub on-word : {region : ℕ} {has_at : Bool} {k : Mark} {ts rest : Tokens} {ys :
     → Read region has_at ts rest (word k (spelling (first ts).tok) (here ts) ∷ ys)
 on-word h r = on-token h.may (h.marked, refl, refl) h.some r
 
-joined : {region : ℕ} {has_at : Bool} {ys zs : Symbols} {used more : Tokens} → Spelled region has_at ys used → Spelled region has_at zs more → Spelled region has_at (ys ++ zs) (used ++ more)
-joined none h = h
-joined (token t may fits g) h = token t may fits (joined g h)
-joined {region} {has_at} {zs = zs} {more = more} (of_operand {n = n} {ys = ys} {used = a} {more = b} made parts g) h =
-    subst (Spelled region has_at (operand n ∷ (ys ++ zs))) (sym (append_assoc a b more)) (of_operand made parts (joined g h))
-joined {region} {has_at} {zs = zs} {more = more} (of_tree {inner = inner} {at = at} {n = n} {ys = ys} {used = a} {more = b} t is right listed inside parts g) h =
-    subst (Spelled region has_at (expression inner at n ∷ (ys ++ zs))) (sym (append_assoc a b more)) (of_tree t is right listed inside parts (joined g h))
+joined : {region : ℕ} {has_at : Bool} {ys zs : Symbols} {used mid more rest : Tokens} → Spelled region has_at ys used mid → mid ≡ more ++ rest → Spelled region has_at zs more rest
+    → Spelled region has_at (ys ++ zs) (used ++ more) rest
+joined none is h = h
+joined (token t may fits g) is h = token t may fits (joined g is h)
+joined {more = more} {rest = rest} (of_no_bullet {k = k} {column = column} {used = a} other g) is h =
+    of_no_bullet (subst (λ l. mark_of (first l).tok ≡ k → (first l).place.column ≢ column) (ap (λ l. a ++ l) is ∙ sym (append_assoc a more rest)) other) (joined g is h)
+joined {region} {has_at} {zs = zs} {more = more} {rest = rest} (of_operand {n = n} {parts = parts} {ys = ys} {used = a} {more = b} made inside g) is h =
+    subst (λ l. Spelled region has_at (operand n ∷ (ys ++ zs)) l rest) (sym (append_assoc a b more))
+    (of_operand made (subst (Spelled region has_at parts a) (ap (λ l. b ++ l) is ∙ sym (append_assoc b more rest)) inside) (joined g is h))
+joined {region} {has_at} {zs = zs} {more = more} {rest = rest} (of_tree {inner = inner} {at = at} {n = n} {ys = ys} {used = a} {more = b} t node right listed wide stops inside g) is h =
+    let on : b ++ _ ≡ (b ++ more) ++ rest = ap (λ l. b ++ l) is ∙ sym (append_assoc b more rest) in
+    subst (λ l. Spelled region has_at (expression inner at n ∷ (ys ++ zs)) l rest) (sym (append_assoc a b more))
+    (of_tree t node right listed wide (subst (λ l. Stops inner (first l)) on stops) (subst (Spelled inner at (pieces inner at (flat t)) a) on inside) (joined g is h))
 
 pub both : {region : ℕ} {has_at : Bool} {ts mid rest : Tokens} {ys zs : Symbols} → Read region has_at ts mid ys → Read region has_at mid rest zs → Read region has_at ts rest (ys ++ zs)
-both {rest = rest} p q = record { used = p.used ++ q.used; is = p.is ∙ ap (λ l. p.used ++ l) q.is ∙ sym (append_assoc p.used q.used rest); spelled = joined p.spelled q.spelled }
+both {region} {has_at} {rest = rest} {ys = ys} p q = record {
+  used = p.used ++ q.used;
+  is = p.is ∙ ap (λ l. p.used ++ l) q.is ∙ sym (append_assoc p.used q.used rest);
+  spelled = joined p.spelled q.is q.spelled;
+}
+
+pub on-no-bullet : {region : ℕ} {has_at : Bool} {ts rest : Tokens} {k : Mark} {column : ℕ} {ys : Symbols} → (mark_of (first ts).tok ≡ k → (here ts).column ≢ column) → Read region has_at ts rest ys
+    → Read region has_at ts rest (no_bullet k column ∷ ys)
+on-no-bullet {k = k} {column = column} other r =
+    record { used = r.used; is = r.is; spelled = of_no_bullet (subst (λ l. mark_of (first l).tok ≡ k → (first l).place.column ≢ column) r.is other) r.spelled }
 
 -- the same with another end
 pub up-to : {region : ℕ} {has_at : Bool} {ts mid rest : Tokens} {ys : Symbols} → mid ≡ rest → Read region has_at ts mid ys → Read region has_at ts rest ys
@@ -214,9 +235,10 @@ pub record ChainRead (s : Setting) (waits : Bool) (ts rest : Tokens) (xs : List 
   pub listed : AreListed xs
   pub read : Read s.region s.has_at ts rest (pieces s.region s.has_at xs)
 
--- what a reader of chains reads is a whole chain
+-- what a reader of chains reads is a whole chain, and where it may have as many pieces as there are tokens, its end is exact
 abbrev pub Good : ChainReader → Type 0
-Good inner = (n : ℕ) (s : Setting) (waits : Bool) (ts rest : Tokens) (xs : List Piece) → inner n s waits ts ≡ (xs, Ok rest) → ChainRead s waits ts rest xs
+Good inner = (n : ℕ) (s : Setting) (waits : Bool) (ts rest : Tokens) (xs : List Piece) → inner n s waits ts ≡ (xs, Ok rest)
+    → ChainRead s waits ts rest xs × (length ts ≤ n → Stops s.region (first rest))
 
 -- what a chain that was finished is
 pub record Finished (c : Chain) (n : Node) (rest : Tokens) : Type 0 where
@@ -241,17 +263,19 @@ le n = omega arith
 
 -- an expression is read, whose chain was
 pub on-finished : OneRightTree → (s : Setting) {region : ℕ} {has_at : Bool} {ts mid rest : Tokens} {n : Node} {ys : Symbols} (c : Chain) → region ≤ s.region → finished c ≡ Ok (n, mid)
-    → ((xs : List Piece) (us : Tokens) → c ≡ (xs, Ok us) → ChainRead s true ts us xs)
+    → ((xs : List Piece) (us : Tokens) → c ≡ (xs, Ok us) → ChainRead s true ts us xs × Stops s.region (first us))
     → Read region has_at mid rest ys → Read region has_at ts rest (expression s.region s.has_at n ∷ ys)
 on-finished law s {region = region} {ts = ts} {mid = mid} {rest = rest} {n = n} {ys = ys} c inside e chain r =
     let f : Finished c n mid = finish c n mid e in
-    let h : ChainRead s true ts mid c.0 = chain c.0 mid f.chain in
+    let both-parts = chain c.0 mid f.chain in
+    let h : ChainRead s true ts mid c.0 = both-parts.0 in
     let tree : (flat f.tree ≡ c.0) × (is_right f.tree ≡ true) = (law c.0 f.tree h.whole h.listed).1 f.is in
     record {
       used = h.read.used ++ r.used;
       is = h.read.is ∙ ap (λ l. h.read.used ++ l) r.is ∙ sym (append_assoc h.read.used r.used rest);
-      spelled = of_tree f.tree f.node tree.1 (subst AreListed (sym tree.0) h.listed) inside
-          (subst (λ l. Spelled s.region s.has_at (pieces s.region s.has_at l) h.read.used) (sym tree.0) h.read.spelled) r.spelled
+      spelled = of_tree f.tree f.node tree.1 (subst AreListed (sym tree.0) h.listed) inside (subst (λ l. Stops s.region (first l)) r.is both-parts.1)
+          (subst (Spelled s.region s.has_at (pieces s.region s.has_at (flat f.tree)) h.read.used) r.is
+          (subst (λ l. Spelled s.region s.has_at (pieces s.region s.has_at l) h.read.used mid) (sym tree.0) h.read.spelled)) r.spelled;
     }
 
 -- an operand has been read
@@ -290,13 +314,17 @@ on-subscript h r = both h.read r
 
 pub on-operand : {region : ℕ} {has_at : Bool} {ts mid rest : Tokens} {n : Node} {parts ys : Symbols} → Operand region has_at n parts → Read region has_at ts mid parts → Read region has_at mid rest ys
     → Read region has_at ts rest (operand n ∷ ys)
-on-operand {rest = rest} made p q = record { used = p.used ++ q.used; is = p.is ∙ ap (λ l. p.used ++ l) q.is ∙ sym (append_assoc p.used q.used rest); spelled = of_operand made p.spelled q.spelled }
+on-operand {region} {has_at} {rest = rest} {parts = parts} made p q = record {
+  used = p.used ++ q.used;
+  is = p.is ∙ ap (λ l. p.used ++ l) q.is ∙ sym (append_assoc p.used q.used rest);
+  spelled = of_operand made (subst (Spelled region has_at parts p.used) q.is p.spelled) q.spelled;
+}
 
 -- a sign at a place is that sign
 pub at-any-place : {region : ℕ} {has_at : Bool} {ts rest : Tokens} {k : Mark} {place : Place} {ys : Symbols} → Read region has_at ts rest (sign_at k place ∷ ys) → Read region has_at ts rest (sign k ∷ ys)
 at-any-place r = record { used = r.used; is = r.is; spelled = forget r.spelled }
   where
-    forget : {region : ℕ} {has_at : Bool} {used : Tokens} {k : Mark} {place : Place} {ys : Symbols} → Spelled region has_at (sign_at k place ∷ ys) used → Spelled region has_at (sign k ∷ ys) used
+    forget : {region : ℕ} {has_at : Bool} {used rest : Tokens} {k : Mark} {place : Place} {ys : Symbols} → Spelled region has_at (sign_at k place ∷ ys) used rest → Spelled region has_at (sign k ∷ ys) used rest
     forget (token t may fits g) = token t may fits.0 g
 
 pub none-after : (s : Setting) (k : Mark) {ts mid : Tokens} {has_at : Bool} {ys : Symbols} → sees s k mid ≡ false → Read s.region has_at ts mid ys → Read s.region has_at ts (after s k mid) ys

@@ -1,17 +1,12 @@
 -- What readings of expressions are, in the words of the language.
-use Rattle.std.specs.Prelude.{◌≡◌, ◌≢◌, ℕ, ◌<◌, ◌≤◌, true, false, None, nat_lt, List, ◌++◌, length, drop, Result, Ok, Err}
+use Rattle.std.specs.Prelude.{◌≡◌, ℕ, ◌<◌, ◌≤◌, true, false, nat_lt, List, ◌++◌, length, drop, Ok}
 use Rattle.std.specs.List.{All}
 use Rattle.tla_ast.specs.declared.token.Token.{Token}
 use Rattle.tla_ast.specs.declared.tree.Node.{Node}
-use Rattle.tla_ast.specs.declared.fault.SynFault.{SynFault}
 use Rattle.tla_ast.specs.Listing.{IsTokenList}
-use Rattle.std_names.specs.declared.operators.Fix.TheVariants.{Infix}
-use Rattle.std_names.specs.Operators.{operator}
-use Rattle.layout_parser.specs.declared.mark.Mark.TheVariants as m
-use Rattle.layout_parser.specs.Marks.{mark_of, spelling}
-use Rattle.layout_parser.specs.Input.{Tokens, first}
+use Rattle.layout_parser.specs.Input.{first}
 use Rattle.layout_parser.specs.Reading.{reading}
-use Rattle.layout_parser.specs.Spelling.{Spells}
+use Rattle.layout_parser.specs.Spelling.{Spells, Stops}
 
 -- the reading at `from` is this node, and it ends before the token at `to`
 abbrev pub IsReading : List Token → ℕ → ℕ → ℕ → Node → ℕ → Type 0
@@ -23,20 +18,15 @@ pub record Uses (ts : List Token) (from to : ℕ) (used : List Token) : Type 0 w
   pub some : from < to
   pub within : to ≤ length ts
 
--- what is read is what the tokens from `from` up to `to` spell, in order
+-- what is read is what the tokens from `from` up to `to` spell, in order, before those that follow
 abbrev pub ReadInOrder : Type 0
 ReadInOrder = (ts : List Token) (from region depth : ℕ) (n : Node) (to : ℕ) → IsReading ts from region depth n to
-    → (used : List Token) × Uses ts from to used × Spells region false n used
+    → (used : List Token) × Uses ts from to used × Spells region false n used (drop to ts)
 
 -- no token outside the region is used
 abbrev pub InsideTheRegion : Type 0
 InsideTheRegion = (ts : List Token) (from region depth : ℕ) (n : Node) (to : ℕ) → IsReading ts from region depth n to
     → (used : List Token) × Uses ts from to used × All (λ t. nat_lt region t.place.column ≡ true) used
-
--- the token does not go on with an expression of the region: it lies outside, or it is no infix operator and begins no postfix one
-abbrev pub Stops : ℕ → Token → Type 0
-Stops region t = nat_lt region t.place.column ≡ true
-    → (operator (spelling t.tok) Infix ≡ None) × (mark_of t.tok ≢ m.Prime) × (mark_of t.tok ≢ m.OpenSquare) × (mark_of t.tok ≢ m.Dot)
 
 -- a reading ends at the first token that does not go on with it
 abbrev pub EndIsExact : Type 0

@@ -1,5 +1,5 @@
 -- The grammar of expressions: which tokens, in which order, are a spelling of a node.
-use Rattle.std.specs.Prelude.{◌≡◌, ℕ, Bool, true, false, ◌≤◌, nat_lt, List, [], ◌∷◌, ◌++◌, map, Option, Some, None, if◌then◌else◌}
+use Rattle.std.specs.Prelude.{◌≡◌, ◌≢◌, ℕ, Bool, true, false, ◌≤◌, nat_lt, List, [], ◌∷◌, ◌++◌, map, Option, Some, None, if◌then◌else◌}
 use Rattle.tla_ast.specs.declared.place.Place.{Place}
 use Rattle.tla_ast.specs.declared.token.Token.{Token}
 use Rattle.tla_ast.specs.declared.tree.Node.{Node}
@@ -25,12 +25,14 @@ use Rattle.operator_chain.specs.Listed.{AreListed}
 use Rattle.layout_parser.specs.declared.mark.Mark.{Mark}
 use Rattle.layout_parser.specs.declared.mark.Mark.TheVariants as m
 use Rattle.layout_parser.specs.Marks.{Text, mark_of, spelling}
-use Rattle.layout_parser.specs.Input.{Tokens, literal_form}
+use Rattle.layout_parser.specs.Input.{Tokens, literal_form, first}
 use Rattle.layout_parser.specs.Reading.{node, group, operator_at}
 
 -- ---- symbols
 
--- What a rule of the grammar is made of. An expression has a region, and the test says whether a new value of an EXCEPT is round it.
+-- What a rule of the grammar is made of: one token (a sign, anywhere, at a place or as the bullet of a column; a word at a place; the name
+-- of a field; a name that is declared; a number or a string; an operator), no token where no further bullet follows, an operand, or
+-- an expression with its region, where the test says whether a new value of an EXCEPT is round it.
 pub data Symbol : Type 0 where
   sign : Mark → Symbol
   sign_at : Mark → Place → Symbol
@@ -40,6 +42,7 @@ pub data Symbol : Type 0 where
   declared : Decl → Symbol
   literal : Mark → Form → Place → Symbol
   operator_sign : Fix → Operator → Symbol
+  no_bullet : Mark → ℕ → Symbol
   operand : Node → Symbol
   expression : ℕ → Bool → Node → Symbol
 
@@ -57,6 +60,7 @@ Fits (declared d) t = (mark_of t.tok ≡ m.Name) × (d ≡ record { name = spell
 Fits (literal k f place) t = (mark_of t.tok ≡ k) × (literal_form t.tok ≡ f) × (t.place ≡ place)
 Fits (operator_sign fix o) t = operator_at t (operator (spelling t.tok) fix) ≡ Some o
 Fits (operand n) t = ⊥
+Fits (no_bullet k column) t = ⊥
 Fits (expression region has_at n) t = ⊥
 
 -- a token that an expression of the region may use: its column is over the region, and it is not what ends the list
@@ -208,9 +212,9 @@ module _ (region : ℕ) (has_at : Bool) where
   definitions [] = []
   definitions (d ∷ ds) = definition d ++ definitions ds
 
-  -- the items of a junction list after the first, with their bullets, in one column
+  -- the items of a junction list after the first, with their bullets, in one column, and no further bullet there
   abbrev pub items : Mark → ℕ → List Node → Symbols
-  items k column [] = []
+  items k column [] = no_bullet k column ∷ []
   items k column (x ∷ xs) = bullet k column ∷ expression column has_at x ∷ items k column xs
 
   -- ---- operands
@@ -240,65 +244,74 @@ module _ (region : ℕ) (has_at : Bool) where
         → Operand (node form.Enum (x ∷ xs) place) (sign_at m.OpenBrace place ∷ (expressions x xs ++ sign m.CloseBrace ∷ []))
     filter : (x : Text) (set condition : Node) (place : Place)
         → Operand (node (form.Filter x) (set ∷ condition ∷ []) place)
-            (sign m.OpenBrace ∷ word m.Name x place ∷ sign m.Belongs ∷ same set ∷ sign m.Colon ∷ same condition ∷ sign m.CloseBrace ∷ [])
+        (sign m.OpenBrace ∷ word m.Name x place ∷ sign m.Belongs ∷ same set ∷ sign m.Colon ∷ same condition ∷ sign m.CloseBrace ∷ [])
     image : (d : Decl) (set e : Node)
         → Operand (node (form.Image d.name) (set ∷ e ∷ []) d.place)
-            (sign m.OpenBrace ∷ same e ∷ sign m.Colon ∷ declared d ∷ sign m.Belongs ∷ same set ∷ sign m.CloseBrace ∷ [])
+        (sign m.OpenBrace ∷ same e ∷ sign m.Colon ∷ declared d ∷ sign m.Belongs ∷ same set ∷ sign m.CloseBrace ∷ [])
     function : (x : Text) (set e : Node) (place : Place)
         → Operand (node (form.Function x) (set ∷ e ∷ []) place)
-            (sign m.OpenSquare ∷ word m.Name x place ∷ sign m.Belongs ∷ same set ∷ sign m.Maps ∷ same e ∷ sign m.CloseSquare ∷ [])
+        (sign m.OpenSquare ∷ word m.Name x place ∷ sign m.Belongs ∷ same set ∷ sign m.Maps ∷ same e ∷ sign m.CloseSquare ∷ [])
     function_set : (x y : Node) (place : Place)
         → Operand (node form.FunctionSet (x ∷ y ∷ []) place) (sign_at m.OpenSquare place ∷ same x ∷ sign m.Arrow ∷ same y ∷ sign m.CloseSquare ∷ [])
     records : (f : Decl × Node) (fs : List (Decl × Node)) (place : Place)
         → Operand (node (form.Record (names_of (f ∷ fs))) (parts_of (f ∷ fs)) place)
-            (sign_at m.OpenSquare place ∷ (fields m.Maps f fs ++ sign m.CloseSquare ∷ []))
+        (sign_at m.OpenSquare place ∷ (fields m.Maps f fs ++ sign m.CloseSquare ∷ []))
     record_set : (f : Decl × Node) (fs : List (Decl × Node)) (place : Place)
         → Operand (node (form.RecordSet (names_of (f ∷ fs))) (parts_of (f ∷ fs)) place)
-            (sign_at m.OpenSquare place ∷ (fields m.Colon f fs ++ sign m.CloseSquare ∷ []))
+        (sign_at m.OpenSquare place ∷ (fields m.Colon f fs ++ sign m.CloseSquare ∷ []))
     except : (f : Node) (u : Update) (us : List Update) (place : Place)
         → Operand (node (form.Except (paths_of (u ∷ us))) (f ∷ values_of (u ∷ us)) place)
-            (sign_at m.OpenSquare place ∷ same f ∷ sign m.Except ∷ (updates u us ++ sign m.CloseSquare ∷ []))
+        (sign_at m.OpenSquare place ∷ same f ∷ sign m.Except ∷ (updates u us ++ sign m.CloseSquare ∷ []))
     box_action : (a v : Node) (ys : Symbols) (place : Place) → Subscript v ys
         → Operand (node form.BoxAct (a ∷ v ∷ []) place) (sign_at m.OpenSquare place ∷ same a ∷ sign m.CloseBox ∷ ys)
     bounded : (all : Bool) (b : Bound) (bs : List Bound) (body : Node) (place : Place)
         → Operand (node (form.Quant all (map group_of (b ∷ bs))) (body ∷ []) place)
-            (sign_at (quantifier_mark all) place ∷ (bounds b bs ++ sign m.Colon ∷ same body ∷ []))
+        (sign_at (quantifier_mark all) place ∷ (bounds b bs ++ sign m.Colon ∷ same body ∷ []))
     unbounded : (all : Bool) (d : Decl) (ds : List Decl) (body : Node) (place : Place)
         → Operand (node (form.Quant all (group (d ∷ ds) None ∷ [])) (body ∷ []) place)
-            (sign_at (quantifier_mark all) place ∷ (names d ds ++ sign m.Colon ∷ same body ∷ []))
+        (sign_at (quantifier_mark all) place ∷ (names d ds ++ sign m.Colon ∷ same body ∷ []))
     choose : (d : Decl) (set : Option Node) (body : Node) (place : Place)
         → Operand (node (form.Choose (group (d ∷ []) set)) (body ∷ []) place)
-            (sign_at m.Choose place ∷ declared d ∷ (set_of set ++ sign m.Colon ∷ same body ∷ []))
+        (sign_at m.Choose place ∷ declared d ∷ (set_of set ++ sign m.Colon ∷ same body ∷ []))
     conditional : (test positive negative : Node) (place : Place)
         → Operand (node form.If (test ∷ positive ∷ negative ∷ []) place)
-            (sign_at m.If place ∷ same test ∷ sign m.Then ∷ same positive ∷ sign m.Else ∷ same negative ∷ [])
+        (sign_at m.If place ∷ same test ∷ sign m.Then ∷ same positive ∷ sign m.Else ∷ same negative ∷ [])
     cases : (a : Arm) (more : List Arm) (place : Place)
         → Operand (node (form.Case false) (arm_parts (a ∷ more)) place) (sign_at m.Case place ∷ arms a more)
     cases_with_other : (a : Arm) (more : List Arm) (e : Node) (place : Place)
         → Operand (node (form.Case true) (arm_parts (a ∷ more) ++ e ∷ []) place)
-            (sign_at m.Case place ∷ (arms a more ++ sign m.Always ∷ sign m.Other ∷ sign m.Arrow ∷ same e ∷ []))
+        (sign_at m.Case place ∷ (arms a more ++ sign m.Always ∷ sign m.Other ∷ sign m.Arrow ∷ same e ∷ []))
     local : (d : Definition) (ds : List Definition) (body : Node) (place : Place)
         → Operand (node (form.Let (map def_of (d ∷ ds))) (body ∷ []) place)
-            (sign_at m.Let place ∷ (definitions (d ∷ ds) ++ sign m.In ∷ same body ∷ []))
+        (sign_at m.Let place ∷ (definitions (d ∷ ds) ++ sign m.In ∷ same body ∷ []))
     junction : (all : Bool) (x : Node) (xs : List Node) (place : Place)
         → Operand (node (form.Junction all) (x ∷ xs) place)
-            (sign_at (junction_mark all) place ∷ expression place.column has_at x ∷ items (junction_mark all) place.column xs)
+        (sign_at (junction_mark all) place ∷ expression place.column has_at x ∷ items (junction_mark all) place.column xs)
     at_sign : (place : Place) → has_at ≡ true → Operand (node form.At [] place) (sign_at m.At place ∷ [])
 
 -- ---- spellings
 
--- The tokens are a spelling of the symbols, in order, in a region. An expression is spelled by the pieces of a right tree of which
--- it is the node, and its region lies in the region round it.
-pub data Spelled : ℕ → Bool → Symbols → Tokens → Type 0 where
-  none : {region : ℕ} {has_at : Bool} → Spelled region has_at [] []
-  token : {region : ℕ} {has_at : Bool} {y : Symbol} {ys : Symbols} {used : Tokens} (t : Token) → MayUse region t → Fits y t
-      → Spelled region has_at ys used → Spelled region has_at (y ∷ ys) (t ∷ used)
-  of_operand : {region : ℕ} {has_at : Bool} {n : Node} {parts ys : Symbols} {used more : Tokens} → Operand region has_at n parts
-      → Spelled region has_at parts used → Spelled region has_at ys more → Spelled region has_at (operand n ∷ ys) (used ++ more)
-  of_tree : {region inner : ℕ} {has_at at : Bool} {n : Node} {ys : Symbols} {used more : Tokens} (t : Tree) → n ≡ node_of t → is_right t ≡ true
-      → AreListed (flat t) → region ≤ inner → Spelled inner at (pieces inner at (flat t)) used → Spelled region has_at ys more
-      → Spelled region has_at (expression inner at n ∷ ys) (used ++ more)
+-- the token does not go on with an expression of the region: it lies outside, or it is no infix operator and begins no postfix one
+abbrev pub Stops : ℕ → Token → Type 0
+Stops region t = nat_lt region t.place.column ≡ true
+    → (operator (spelling t.tok) Infix ≡ None) × (mark_of t.tok ≢ m.Prime) × (mark_of t.tok ≢ m.OpenSquare) × (mark_of t.tok ≢ m.Dot)
 
--- the tokens are a spelling of the node as an expression of the region
-abbrev pub Spells : ℕ → Bool → Node → Tokens → Type 0
-Spells region has_at n used = Spelled region has_at (expression region has_at n ∷ []) used
+-- The first tokens are a spelling of the symbols, in order, in a region, where the others follow them. An expression is spelled by the
+-- pieces of a right tree of which it is the node, up to the first token that does not go on with it; its region lies in the region
+-- round it. A junction list ends where no further bullet follows.
+pub data Spelled : ℕ → Bool → Symbols → Tokens → Tokens → Type 0 where
+  none : {region : ℕ} {has_at : Bool} {rest : Tokens} → Spelled region has_at [] [] rest
+  token : {region : ℕ} {has_at : Bool} {y : Symbol} {ys : Symbols} {used rest : Tokens} (t : Token) → MayUse region t → Fits y t
+      → Spelled region has_at ys used rest → Spelled region has_at (y ∷ ys) (t ∷ used) rest
+  of_no_bullet : {region : ℕ} {has_at : Bool} {k : Mark} {column : ℕ} {ys : Symbols} {used rest : Tokens}
+      → (mark_of (first (used ++ rest)).tok ≡ k → (first (used ++ rest)).place.column ≢ column)
+      → Spelled region has_at ys used rest → Spelled region has_at (no_bullet k column ∷ ys) used rest
+  of_operand : {region : ℕ} {has_at : Bool} {n : Node} {parts ys : Symbols} {used more rest : Tokens} → Operand region has_at n parts
+      → Spelled region has_at parts used (more ++ rest) → Spelled region has_at ys more rest → Spelled region has_at (operand n ∷ ys) (used ++ more) rest
+  of_tree : {region inner : ℕ} {has_at at : Bool} {n : Node} {ys : Symbols} {used more rest : Tokens} (t : Tree) → n ≡ node_of t → is_right t ≡ true
+      → AreListed (flat t) → region ≤ inner → Stops inner (first (more ++ rest)) → Spelled inner at (pieces inner at (flat t)) used (more ++ rest)
+      → Spelled region has_at ys more rest → Spelled region has_at (expression inner at n ∷ ys) (used ++ more) rest
+
+-- the first tokens are a spelling of the node as an expression of the region, where the others follow them
+abbrev pub Spells : ℕ → Bool → Node → Tokens → Tokens → Type 0
+Spells region has_at n used rest = Spelled region has_at (expression region has_at n ∷ []) used rest

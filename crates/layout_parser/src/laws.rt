@@ -5,7 +5,8 @@ ghost use Rattle.layout_parser.specs.Laws.{ReadInOrder, InsideTheRegion, EndIsEx
 use operator_chain::one_right_tree;
 
 /// What is read is what the tokens from the first up to the end of the reading spell, in order: the node's own tokens, with the
-/// parentheses, commas and words that leave no node put back.
+/// parentheses, commas and words that leave no node put back. Each chain in it is read as a right tree, each expression in it ends
+/// before the first token that doesn't go on with it, and each junction list where no further bullet follows in its column.
 pub fn read_in_order()
     ensures { ReadInOrder }
 {
