@@ -1,6 +1,7 @@
 #!/usr/bin/env bash
 # Times the reader of expressions, as LLVM builds it: long chains of operators, and braces nested up to 200 deep. Each row is read at
 # a tenth of its size ten times as often, and then at its size: where the time is linear, both lines tell about the same time.
+# Column 0 is that of a text that is read.
 # It makes a program in a scratch folder over a copy of the crates, and leaves the repository as it was.
 set -eu
 here=$(cd "$(dirname "$0")/.." && pwd)
@@ -70,7 +71,7 @@ fn read_once(alloc: Global, tokens: &Tokens) -> u64 {
             0
         }
         Err(SynFault::At { place, kind: _ }) => place.column,
-        Err(SynFault::Memory) => 1,
+        Err(SynFault::Memory) => u64::MAX,
     }
 }
 
