@@ -9,7 +9,7 @@ use Rattle.tla_ast.specs.declared.tree.Node.{Node}
 use Rattle.tla_ast.specs.declared.token.Token.{Token}
 use Rattle.tla_ast.specs.declared.fault.SynFault.{SynFault}
 use Rattle.std_names.specs.declared.operators.Fix.{Fix}
-use Rattle.std_names.specs.declared.operators.Fix.TheVariants.{Prefix, Infix, Postfix}
+use Rattle.std_names.specs.declared.operators.Fix.TheVariants.{Prefix, Infix}
 use Rattle.std_names.specs.Operators.{operator, infix_rows, postfix_rows}
 use Rattle.operator_chain.specs.declared.chain.Operator.{Operator}
 use Rattle.operator_chain.specs.declared.chain.Piece.{Piece}
@@ -28,7 +28,7 @@ use Rattle.core_expr.specs.declared.memory.Memory.{Memory}
 use Rattle.layout_parser.specs.Nests.{Flats, ended}
 use Rattle.layout_parser.specs.Marks.{Text, spelling}
 use Rattle.layout_parser.specs.Input.{Tokens, Outcome, first, next, here, is_inside, mark, name, too_deep}
-use Rattle.layout_parser.specs.Reading.{Chain, ChainReader, Stepped, behind, left_over, joined, full, step, step_before, step_after, before_by, after_by, suffixed, by_operand, by_suffix, operand, operator_at, operator_in, index_at, field_at, prime_at, member_at, after_member, node, indexed, field, index, chain_from, nested}
+use Rattle.layout_parser.specs.Reading.{Chain, ChainReader, Stepped, behind, left_over, joined, full, step, step_before, step_after, before_by, after_by, suffixed, by_operand, by_suffix, operand, operator_at, operator_in, index_at, field_at, prime_at, member_at, indexed, field, index, chain_from, nested}
 
 -- ---- the loop
 

@@ -1,9 +1,8 @@
 -- The definition on small texts.
-use Rattle.std.proofs.Common.{◌≡◌, ℕ, List, [], ◌∷◌, Ok, Err, true, false, refl}
+use Rattle.std.proofs.Common.{◌≡◌, ℕ, List, [], ◌∷◌, Err, refl}
 use Rattle.std.specs.Prelude.{codes}
-use Rattle.std_names.specs.Operators.{operator, prefix_rows, infix_rows, postfix_rows}
+use Rattle.std_names.specs.Operators.{operator, prefix_rows, infix_rows}
 use Rattle.tla_ast.specs.declared.token.Token.{Token}
-use Rattle.tla_ast.specs.declared.token.Tok.{Tok}
 use Rattle.tla_ast.specs.declared.token.Tok.TheVariants as tok
 use Rattle.tla_ast.specs.declared.place.Place.{Place}
 use Rattle.tla_ast.specs.declared.fault.SynFault.TheVariants as fault

@@ -1,8 +1,8 @@
 -- Readings of expressions.
-use Rattle.std.specs.Prelude.{◌≡◌, ◌≢◌, ℕ, zero, suc, ◌+◌, ◌-◌, Bool, true, false, not, ◌&&◌, ◌||◌, if◌then◌else◌, nat_eq, List, [], ◌∷◌, ◌++◌, length, drop, Option, Some, None, Result, Ok, Err, codes}
+use Rattle.std.specs.Prelude.{◌≡◌, ◌≢◌, ℕ, zero, suc, ◌-◌, Bool, true, false, not, ◌&&◌, ◌||◌, if◌then◌else◌, nat_eq, List, [], ◌∷◌, ◌++◌, length, drop, Option, Some, None, Result, Ok, Err, codes}
 use Rattle.tla_ast.specs.declared.place.Place.{Place}
 use Rattle.tla_ast.specs.declared.token.Token.{Token}
-use Rattle.tla_ast.specs.declared.fault.Kind.TheVariants.{Precedence, TooDeep}
+use Rattle.tla_ast.specs.declared.fault.Kind.TheVariants.{Precedence}
 use Rattle.tla_ast.specs.declared.fault.SynFault.{SynFault}
 use Rattle.tla_ast.specs.declared.fault.SynFault.TheVariants as fault
 use Rattle.tla_ast.specs.declared.tree.Node.{Node, roll-Node, out-Node}
@@ -25,7 +25,6 @@ use Rattle.operator_chain.specs.Tree.{Tree, node_of, hole}
 use Rattle.operator_chain.specs.Chain.{tree_of, fault_of}
 use Rattle.layout_parser.specs.declared.mark.Mark.{Mark}
 use Rattle.layout_parser.specs.declared.mark.Mark.TheVariants as m
-use Rattle.layout_parser.specs.declared.setting.Around.{Around}
 use Rattle.layout_parser.specs.declared.setting.Around.TheVariants as around
 use Rattle.layout_parser.specs.declared.setting.Setting.{Setting}
 use Rattle.layout_parser.specs.declared.setting.Stop.TheVariants as stop
@@ -295,9 +294,9 @@ module _ (left : ℕ) (inner : ChainReader) where
     place ← take
     v ← subscript s
     (λ ts.
-      let action = ((λ a. node (form.Fair strong) (v ∷ a ∷ []) place) <$> parenthesized s) ts in
-      let bad : Outcome Node = refuse s stop.Other ts in
-      if sees s m.OpenParen ts then action else bad)
+        let action = ((λ a. node (form.Fair strong) (v ∷ a ∷ []) place) <$> parenthesized s) ts in
+        let bad : Outcome Node = refuse s stop.Other ts in
+        if sees s m.OpenParen ts then action else bad)
 
   -- ---- braces
 

@@ -6,7 +6,6 @@ ghost use Rattle.layout_parser.specs.Input.{Reads};
 ghost use Rattle.layout_parser.specs.Reading as spec;
 ghost use Rattle.layout_parser.specs.Nests.{Nests, Flats, ended};
 
-use core_expr::Memory;
 use crate::build::{both, group, one, whole};
 use crate::cursor::Cursor;
 use crate::flat::Flat;
@@ -14,6 +13,7 @@ use crate::grammar::Grammar;
 use crate::held::{Held, HeldItems};
 use crate::mark::Mark;
 use crate::setting::{Setting, Stop};
+use core_expr::Memory;
 use sqlite_items::Items;
 use std::alloc::Global;
 use tla_ast::{Decl, Form, Group, Node, SynFault};
@@ -48,12 +48,17 @@ fn after_set(
     Err(cursor.refusal(alloc, setting, Stop::Expression))
 }
 
-impl<
-    F: Fn(Global, &mut Cursor<'_>, usize, usize, Setting, bool) -> Result<Flat, Memory>,
-> Grammar<F> {
+impl<F: Fn(Global, &mut Cursor<'_>, usize, usize, Setting, bool) -> Result<Flat, Memory>> Grammar<
+    F,
+> {
     /// The set of a group of bound names.
     #[tactic(auto, unfolding(crate::specs::Reading::bound_set))]
-    fn bound_set(&self, cursor: &mut Cursor<'_>, setting: Setting, names: Items<Decl>) -> Result<Held<Group>, SynFault>
+    fn bound_set(
+        &self,
+        cursor: &mut Cursor<'_>,
+        setting: Setting,
+        names: Items<Decl>,
+    ) -> Result<Held<Group>, SynFault>
         requires { Nests self.now.left (F.pre self.now.read) (F.post self.now.read) }
         ensures { Reads (spec.bound_set self.now.left (spec.nested self.now.left) setting names cursor.old) result cursor.new }
     {
@@ -62,7 +67,11 @@ impl<
     }
 
     /// One or more groups of names with a set, or one group without a set, and the `:`.
-    fn groups(&self, cursor: &mut Cursor<'_>, setting: Setting) -> Result<HeldItems<Group>, SynFault>
+    fn groups(
+        &self,
+        cursor: &mut Cursor<'_>,
+        setting: Setting,
+    ) -> Result<HeldItems<Group>, SynFault>
         requires { Nests self.now.left (F.pre self.now.read) (F.post self.now.read) }
         ensures { Reads (spec.groups self.now.left (spec.nested self.now.left) setting cursor.old) result cursor.new }
     {
@@ -87,7 +96,13 @@ impl<
 
     /// What follows a bound name: a comma, a set, or the `:`, which may come without a set where this is the first group.
     #[tactic(auto, unfolding(crate::specs::Reading::after_name))]
-    fn after_name(&self, cursor: &mut Cursor<'_>, setting: Setting, names: Items<Decl>, is_first: bool) -> Result<After, SynFault>
+    fn after_name(
+        &self,
+        cursor: &mut Cursor<'_>,
+        setting: Setting,
+        names: Items<Decl>,
+        is_first: bool,
+    ) -> Result<After, SynFault>
         requires { Nests self.now.left (F.pre self.now.read) (F.post self.now.read) }
         ensures { Reads (spec.after_name self.now.left (spec.nested self.now.left) setting names is_first cursor.old) result cursor.new }
     {
@@ -107,7 +122,12 @@ impl<
 
     /// A quantifier.
     #[tactic(auto, unfolding(crate::specs::Reading::quantifier))]
-    pub fn quantifier(&self, cursor: &mut Cursor<'_>, all: bool, setting: Setting) -> Result<Held<Node>, SynFault>
+    pub fn quantifier(
+        &self,
+        cursor: &mut Cursor<'_>,
+        all: bool,
+        setting: Setting,
+    ) -> Result<Held<Node>, SynFault>
         requires { Nests self.now.left (F.pre self.now.read) (F.post self.now.read) }
         ensures { Reads (spec.quantifier self.now.left (spec.nested self.now.left) all setting cursor.old) result cursor.new }
     {
@@ -121,7 +141,11 @@ impl<
 
     /// The set of the name of a CHOOSE, and the `:`.
     #[tactic(auto, unfolding(crate::specs::Reading::domain))]
-    fn domain(&self, cursor: &mut Cursor<'_>, setting: Setting) -> Result<Option<Held<Node>>, SynFault>
+    fn domain(
+        &self,
+        cursor: &mut Cursor<'_>,
+        setting: Setting,
+    ) -> Result<Option<Held<Node>>, SynFault>
         requires { Nests self.now.left (F.pre self.now.read) (F.post self.now.read) }
         ensures { Reads (spec.domain self.now.left (spec.nested self.now.left) setting cursor.old) result cursor.new }
     {

@@ -8,16 +8,16 @@ ghost use Rattle.layout_parser.specs.Input.{Reads, and_then};
 ghost use Rattle.layout_parser.specs.Reading as spec;
 ghost use Rattle.layout_parser.specs.Nests.{Nests, Flats, ended};
 
-use crate::member::{Bound, element, is_whole, put_before};
-use core_expr::{Memory, Text};
-use operator_chain::Piece;
 use crate::build::{binary, leaf, unary, whole};
 use crate::cursor::Cursor;
 use crate::flat::Flat;
 use crate::grammar::{Grammar, finished};
 use crate::held::{Held, HeldItems};
 use crate::mark::Mark;
+use crate::member::{Bound, element, is_whole, put_before};
 use crate::setting::{Around, Setting, Stop};
+use core_expr::{Memory, Text};
+use operator_chain::Piece;
 use std::alloc::Global;
 use tla_ast::{Form, Node, Place, SynFault};
 
@@ -47,12 +47,17 @@ fn after_first(cursor: &Cursor<'_>, setting: Setting, operand: &Node) -> Setting
     }
 }
 
-impl<
-    F: Fn(Global, &mut Cursor<'_>, usize, usize, Setting, bool) -> Result<Flat, Memory>,
-> Grammar<F> {
+impl<F: Fn(Global, &mut Cursor<'_>, usize, usize, Setting, bool) -> Result<Flat, Memory>> Grammar<
+    F,
+> {
     /// `{e : x \in S}`, after the `:`.
     #[tactic(auto, unfolding(crate::specs::Reading::image))]
-    fn image(&self, cursor: &mut Cursor<'_>, setting: Setting, value: Held<Node>) -> Result<Held<Node>, SynFault>
+    fn image(
+        &self,
+        cursor: &mut Cursor<'_>,
+        setting: Setting,
+        value: Held<Node>,
+    ) -> Result<Held<Node>, SynFault>
         requires { Nests self.now.left (F.pre self.now.read) (F.post self.now.read) }
         ensures { Reads (spec.image self.now.left (spec.nested self.now.left) setting value cursor.old) result cursor.new }
     {
@@ -66,7 +71,14 @@ impl<
 
     /// `{x \in S : P}`, after the `:`.
     #[tactic(auto, unfolding(crate::specs::Reading::filter))]
-    fn filter(&self, cursor: &mut Cursor<'_>, setting: Setting, name: Text, place: Place, set: Held<Node>) -> Result<Held<Node>, SynFault>
+    fn filter(
+        &self,
+        cursor: &mut Cursor<'_>,
+        setting: Setting,
+        name: Text,
+        place: Place,
+        set: Held<Node>,
+    ) -> Result<Held<Node>, SynFault>
         requires { Nests self.now.left (F.pre self.now.read) (F.post self.now.read) }
         ensures { Reads (spec.filter self.now.left (spec.nested self.now.left) setting name place set cursor.old) result cursor.new }
     {
@@ -78,7 +90,13 @@ impl<
 
     /// The rest of `{e, ..}` after a comma.
     #[tactic(auto, unfolding(crate::specs::Reading::elements))]
-    fn elements(&self, cursor: &mut Cursor<'_>, setting: Setting, place: Place, element: Held<Node>) -> Result<Held<Node>, SynFault>
+    fn elements(
+        &self,
+        cursor: &mut Cursor<'_>,
+        setting: Setting,
+        place: Place,
+        element: Held<Node>,
+    ) -> Result<Held<Node>, SynFault>
         requires { Nests self.now.left (F.pre self.now.read) (F.post self.now.read) }
         ensures { Reads (spec.elements self.now.left (spec.nested self.now.left) setting place element cursor.old) result cursor.new }
     {
@@ -90,7 +108,13 @@ impl<
 
     /// What follows the first expression in a brace.
     #[tactic(auto, unfolding(crate::specs::Reading::brace_end))]
-    fn brace_end(&self, cursor: &mut Cursor<'_>, setting: Setting, place: Place, element: Held<Node>) -> Result<Held<Node>, SynFault>
+    fn brace_end(
+        &self,
+        cursor: &mut Cursor<'_>,
+        setting: Setting,
+        place: Place,
+        element: Held<Node>,
+    ) -> Result<Held<Node>, SynFault>
         requires { Nests self.now.left (F.pre self.now.read) (F.post self.now.read) }
         ensures { Reads (spec.brace_end self.now.left (spec.nested self.now.left) setting place element cursor.old) result cursor.new }
     {
@@ -108,7 +132,14 @@ impl<
     }
 
     /// A brace that begins with `x \in S`, where it is no `{x \in S : P}`.
-    fn other_member_brace(&self, cursor: &mut Cursor<'_>, setting: Setting, place: Place, bound: Bound, set: Flat) -> Result<Held<Node>, SynFault>
+    fn other_member_brace(
+        &self,
+        cursor: &mut Cursor<'_>,
+        setting: Setting,
+        place: Place,
+        bound: Bound,
+        set: Flat,
+    ) -> Result<Held<Node>, SynFault>
         requires nests { Nests self.now.left (F.pre self.now.read) (F.post self.now.read) }
         requires set { IsChain true set.pieces.items × AreListed set.pieces.items }
         ensures { Reads (and_then (spec.finished (spec.after_member bound.name bound.place bound.sign (set.pieces.items, ended set.fault cursor.old))) (spec.brace_end self.now.left (spec.nested self.now.left) setting place)) result cursor.new }
@@ -119,7 +150,12 @@ impl<
 
     /// A brace that begins with `x \in`.
     #[tactic(auto, unfolding(crate::specs::Reading::member_brace))]
-    fn member_brace(&self, cursor: &mut Cursor<'_>, setting: Setting, place: Place) -> Result<Held<Node>, SynFault>
+    fn member_brace(
+        &self,
+        cursor: &mut Cursor<'_>,
+        setting: Setting,
+        place: Place,
+    ) -> Result<Held<Node>, SynFault>
         requires { Nests self.now.left (F.pre self.now.read) (F.post self.now.read) }
         ensures { Reads (spec.member_brace self.now.left (spec.nested self.now.left) setting place cursor.old) result cursor.new }
     {
@@ -136,7 +172,13 @@ impl<
 
     /// A brace after its first operand.
     #[tactic(auto, unfolding(crate::specs::Reading::tuple_brace_after))]
-    fn tuple_brace_after(&self, cursor: &mut Cursor<'_>, setting: Setting, place: Place, operand: Held<Node>) -> Result<Held<Node>, SynFault>
+    fn tuple_brace_after(
+        &self,
+        cursor: &mut Cursor<'_>,
+        setting: Setting,
+        place: Place,
+        operand: Held<Node>,
+    ) -> Result<Held<Node>, SynFault>
         requires { Nests self.now.left (F.pre self.now.read) (F.post self.now.read) }
         ensures { Reads (spec.tuple_brace_after self.now.left (spec.nested self.now.left) setting place operand cursor.old) result cursor.new }
     {
@@ -150,7 +192,12 @@ impl<
 
     /// A brace whose first token is `<<`.
     #[tactic(auto, unfolding(crate::specs::Reading::tuple_brace))]
-    fn tuple_brace(&self, cursor: &mut Cursor<'_>, setting: Setting, place: Place) -> Result<Held<Node>, SynFault>
+    fn tuple_brace(
+        &self,
+        cursor: &mut Cursor<'_>,
+        setting: Setting,
+        place: Place,
+    ) -> Result<Held<Node>, SynFault>
         requires { Nests self.now.left (F.pre self.now.read) (F.post self.now.read) }
         ensures { Reads (spec.tuple_brace self.now.left (spec.nested self.now.left) setting place cursor.old) result cursor.new }
     {
@@ -168,7 +215,12 @@ impl<
 
     /// What follows `{`.
     #[tactic(auto, unfolding(crate::specs::Reading::brace_from))]
-    fn brace_from(&self, cursor: &mut Cursor<'_>, setting: Setting, place: Place) -> Result<Held<Node>, SynFault>
+    fn brace_from(
+        &self,
+        cursor: &mut Cursor<'_>,
+        setting: Setting,
+        place: Place,
+    ) -> Result<Held<Node>, SynFault>
         requires { Nests self.now.left (F.pre self.now.read) (F.post self.now.read) }
         ensures { Reads (spec.brace_from self.now.left (spec.nested self.now.left) setting place cursor.old) result cursor.new }
     {

@@ -6,7 +6,6 @@ ghost use Rattle.layout_parser.specs.Input.{Reads};
 ghost use Rattle.layout_parser.specs.Reading as spec;
 ghost use Rattle.layout_parser.specs.Nests.{Nests, Flats, ended};
 
-use core_expr::{Memory, Text};
 use crate::build::{binary, both, leaf, whole};
 use crate::cursor::Cursor;
 use crate::flat::Flat;
@@ -14,14 +13,20 @@ use crate::grammar::Grammar;
 use crate::held::{Held, HeldItems};
 use crate::mark::Mark;
 use crate::setting::{Around, Setting, Stop};
+use core_expr::{Memory, Text};
 use std::alloc::Global;
 use tla_ast::{Form, Node, Place, SynFault};
 
-impl<
-    F: Fn(Global, &mut Cursor<'_>, usize, usize, Setting, bool) -> Result<Flat, Memory>,
-> Grammar<F> {
+impl<F: Fn(Global, &mut Cursor<'_>, usize, usize, Setting, bool) -> Result<Flat, Memory>> Grammar<
+    F,
+> {
     /// One or more expressions, with commas between, after those found.
-    pub fn expressions(&self, cursor: &mut Cursor<'_>, setting: Setting, mut found: HeldItems<Node>) -> Result<HeldItems<Node>, SynFault>
+    pub fn expressions(
+        &self,
+        cursor: &mut Cursor<'_>,
+        setting: Setting,
+        mut found: HeldItems<Node>,
+    ) -> Result<HeldItems<Node>, SynFault>
         requires { Nests self.now.left (F.pre self.now.read) (F.post self.now.read) }
         ensures { Reads (spec.expressions self.now.left (spec.nested self.now.left) setting found cursor.old) result cursor.new }
     {
@@ -36,7 +41,11 @@ impl<
 
     /// The arguments of a name.
     #[tactic(auto, unfolding(crate::specs::Reading::arguments))]
-    fn arguments(&self, cursor: &mut Cursor<'_>, setting: Setting) -> Result<HeldItems<Node>, SynFault>
+    fn arguments(
+        &self,
+        cursor: &mut Cursor<'_>,
+        setting: Setting,
+    ) -> Result<HeldItems<Node>, SynFault>
         requires { Nests self.now.left (F.pre self.now.read) (F.post self.now.read) }
         ensures { Reads (spec.arguments self.now.left (spec.nested self.now.left) setting cursor.old) result cursor.new }
     {
@@ -64,7 +73,11 @@ impl<
 
     /// An expression in parentheses.
     #[tactic(auto, unfolding(crate::specs::Reading::parenthesized))]
-    pub fn parenthesized(&self, cursor: &mut Cursor<'_>, setting: Setting) -> Result<Held<Node>, SynFault>
+    pub fn parenthesized(
+        &self,
+        cursor: &mut Cursor<'_>,
+        setting: Setting,
+    ) -> Result<Held<Node>, SynFault>
         requires { Nests self.now.left (F.pre self.now.read) (F.post self.now.read) }
         ensures { Reads (spec.parenthesized self.now.left (spec.nested self.now.left) setting cursor.old) result cursor.new }
     {
@@ -93,7 +106,11 @@ impl<
 
     /// A subscript: an identifier, a tuple or an expression in parentheses.
     #[tactic(auto, unfolding(crate::specs::Reading::subscript))]
-    pub fn subscript(&self, cursor: &mut Cursor<'_>, setting: Setting) -> Result<Held<Node>, SynFault>
+    pub fn subscript(
+        &self,
+        cursor: &mut Cursor<'_>,
+        setting: Setting,
+    ) -> Result<Held<Node>, SynFault>
         requires { Nests self.now.left (F.pre self.now.read) (F.post self.now.read) }
         ensures { Reads (spec.subscript self.now.left (spec.nested self.now.left) setting cursor.old) result cursor.new }
     {
@@ -113,7 +130,13 @@ impl<
 
     /// `>>` after the items of a tuple, or `>>_` after an action.
     #[tactic(auto, unfolding(crate::specs::Reading::angle_end))]
-    fn angle_end(&self, cursor: &mut Cursor<'_>, setting: Setting, place: Place, mut parts: HeldItems<Node>) -> Result<Held<Node>, SynFault>
+    fn angle_end(
+        &self,
+        cursor: &mut Cursor<'_>,
+        setting: Setting,
+        place: Place,
+        mut parts: HeldItems<Node>,
+    ) -> Result<Held<Node>, SynFault>
         requires { Nests self.now.left (F.pre self.now.read) (F.post self.now.read) }
         ensures { Reads (spec.angle_end self.now.left (spec.nested self.now.left) setting place parts cursor.old) result cursor.new }
     {
@@ -146,7 +169,12 @@ impl<
 
     /// `WF_v(A)` and `SF_v(A)`.
     #[tactic(auto, unfolding(crate::specs::Reading::fair))]
-    pub fn fair(&self, cursor: &mut Cursor<'_>, strong: bool, setting: Setting) -> Result<Held<Node>, SynFault>
+    pub fn fair(
+        &self,
+        cursor: &mut Cursor<'_>,
+        strong: bool,
+        setting: Setting,
+    ) -> Result<Held<Node>, SynFault>
         requires { Nests self.now.left (F.pre self.now.read) (F.post self.now.read) }
         ensures { Reads (spec.fair self.now.left (spec.nested self.now.left) strong setting cursor.old) result cursor.new }
     {

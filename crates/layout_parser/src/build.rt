@@ -48,7 +48,12 @@ pub fn one<T: Drop>(alloc: Global, item: T) -> Result<Items<T>, AllocError>
 }
 
 /// A node with one part.
-pub fn unary(alloc: Global, form: Form, part: Held<Node>, place: Place) -> Result<Held<Node>, AllocError>
+pub fn unary(
+    alloc: Global,
+    form: Form,
+    part: Held<Node>,
+    place: Place,
+) -> Result<Held<Node>, AllocError>
     ensures { IfOk result (λ n. n ≡ spec.node form (part ∷ []) place) }
 {
     let parts = HeldItems::of(alloc, part)?;

@@ -265,12 +265,7 @@ impl<'a> Cursor<'a> {
 
     /// Reads an identifier.
     #[tactic(auto, unfolding(crate::specs::Input::name))]
-    pub fn name(
-        &mut self,
-        alloc: Global,
-        setting: Setting,
-        before: Stop,
-    ) -> Result<Text, SynFault>
+    pub fn name(&mut self, alloc: Global, setting: Setting, before: Stop) -> Result<Text, SynFault>
         ensures { Reads (spec.name setting before self.old) result self.new }
     {
         if !self.sees(setting, Mark::Name) {

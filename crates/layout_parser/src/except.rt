@@ -6,7 +6,6 @@ ghost use Rattle.layout_parser.specs.Input.{Reads};
 ghost use Rattle.layout_parser.specs.Reading as spec;
 ghost use Rattle.layout_parser.specs.Nests.{Nests, Flats, ended};
 
-use core_expr::Memory;
 use crate::build::{either, whole};
 use crate::cursor::Cursor;
 use crate::flat::Flat;
@@ -14,6 +13,7 @@ use crate::grammar::Grammar;
 use crate::held::{Held, HeldItems};
 use crate::mark::Mark;
 use crate::setting::{Setting, Stop};
+use core_expr::Memory;
 use operator_chain::{Ending, Piece};
 use std::alloc::{AllocError, Global};
 use std::collections::VecDeque;
@@ -77,9 +77,9 @@ fn key_in(
     }
 }
 
-impl<
-    F: Fn(Global, &mut Cursor<'_>, usize, usize, Setting, bool) -> Result<Flat, Memory>,
-> Grammar<F> {
+impl<F: Fn(Global, &mut Cursor<'_>, usize, usize, Setting, bool) -> Result<Flat, Memory>> Grammar<
+    F,
+> {
     /// One key of a path.
     #[tactic(auto, unfolding(crate::specs::Reading::key_of))]
     fn key(&self, cursor: &mut Cursor<'_>, setting: Setting) -> Result<Held<Key>, SynFault>
@@ -119,7 +119,11 @@ impl<
 
     /// One update: its path and the new value, in which `@` has a meaning.
     #[tactic(auto, unfolding(crate::specs::Reading::update))]
-    fn update(&self, cursor: &mut Cursor<'_>, setting: Setting) -> Result<(Held<Path>, Held<Node>), SynFault>
+    fn update(
+        &self,
+        cursor: &mut Cursor<'_>,
+        setting: Setting,
+    ) -> Result<(Held<Path>, Held<Node>), SynFault>
         requires { Nests self.now.left (F.pre self.now.read) (F.post self.now.read) }
         ensures { Reads (spec.update self.now.left (spec.nested self.now.left) setting cursor.old) result cursor.new }
     {
@@ -134,7 +138,12 @@ impl<
     }
 
     /// One or more updates, with commas between.
-    fn updates(&self, cursor: &mut Cursor<'_>, setting: Setting, function: Held<Node>) -> Result<Updates, SynFault>
+    fn updates(
+        &self,
+        cursor: &mut Cursor<'_>,
+        setting: Setting,
+        function: Held<Node>,
+    ) -> Result<Updates, SynFault>
         requires { Nests self.now.left (F.pre self.now.read) (F.post self.now.read) }
         ensures { Reads (spec.updates self.now.left (spec.nested self.now.left) setting function cursor.old) result cursor.new }
     {
@@ -151,7 +160,13 @@ impl<
 
     /// `[f EXCEPT !path = e, ..]`, after the EXCEPT.
     #[tactic(auto, unfolding(crate::specs::Reading::except))]
-    pub fn except(&self, cursor: &mut Cursor<'_>, setting: Setting, place: Place, function: Held<Node>) -> Result<Held<Node>, SynFault>
+    pub fn except(
+        &self,
+        cursor: &mut Cursor<'_>,
+        setting: Setting,
+        place: Place,
+        function: Held<Node>,
+    ) -> Result<Held<Node>, SynFault>
         requires { Nests self.now.left (F.pre self.now.read) (F.post self.now.read) }
         ensures { Reads (spec.except self.now.left (spec.nested self.now.left) setting place function cursor.old) result cursor.new }
     {

@@ -62,9 +62,9 @@ pub fn finished(alloc: Global, flat: Flat) -> Result<Held<Node>, SynFault>
     }
 }
 
-impl<
-    F: Fn(Global, &mut Cursor<'_>, usize, usize, Setting, bool) -> Result<Flat, Memory>,
-> Grammar<F> {
+impl<F: Fn(Global, &mut Cursor<'_>, usize, usize, Setting, bool) -> Result<Flat, Memory>> Grammar<
+    F,
+> {
     fn nested(
         &self,
         cursor: &mut Cursor<'_>,
@@ -104,12 +104,7 @@ impl<
         finished(self.alloc, flat)
     }
 
-    fn step(
-        &self,
-        cursor: &mut Cursor<'_>,
-        setting: Setting,
-        waits: bool,
-    ) -> Result<Step, Memory>
+    fn step(&self, cursor: &mut Cursor<'_>, setting: Setting, waits: bool) -> Result<Step, Memory>
         requires { Nests self.now.left (F.pre self.now.read) (F.post self.now.read) }
         ensures { Steps (spec.step self.now.left (spec.nested self.now.left) setting waits cursor.old) result cursor.new }
     {
@@ -138,7 +133,10 @@ impl<
                     pieces.push_back(piece)?;
                     waits = opens;
                 }
-                Step::Ended => return Ok(Flat { pieces, fault: None }),
+                Step::Ended => return Ok(Flat {
+                    pieces,
+                    fault: None,
+                }),
                 Step::Broken(piece, fault) => return broken(pieces, piece, fault),
             }
         }

@@ -6,7 +6,6 @@ ghost use Rattle.layout_parser.specs.Input.{Reads};
 ghost use Rattle.layout_parser.specs.Reading as spec;
 ghost use Rattle.layout_parser.specs.Nests.{Nests, Flats, ended};
 
-use core_expr::{Memory, Text};
 use crate::build::{both, leaf, whole};
 use crate::cursor::Cursor;
 use crate::flat::Flat;
@@ -14,6 +13,7 @@ use crate::grammar::Grammar;
 use crate::held::{Held, HeldItems};
 use crate::mark::{Mark, same_mark};
 use crate::setting::{Setting, Stop};
+use core_expr::{Memory, Text};
 use std::alloc::Global;
 use tla_ast::{Form, Node, SynFault};
 
@@ -37,11 +37,16 @@ fn literal(alloc: Global, cursor: &mut Cursor<'_>) -> Result<Held<Node>, SynFaul
     Ok(leaf(alloc, form, place))
 }
 
-impl<
-    F: Fn(Global, &mut Cursor<'_>, usize, usize, Setting, bool) -> Result<Flat, Memory>,
-> Grammar<F> {
+impl<F: Fn(Global, &mut Cursor<'_>, usize, usize, Setting, bool) -> Result<Flat, Memory>> Grammar<
+    F,
+> {
     /// The items of a junction list from a bullet on.
-    fn items(&self, cursor: &mut Cursor<'_>, setting: Setting, mark: Mark) -> Result<HeldItems<Node>, SynFault>
+    fn items(
+        &self,
+        cursor: &mut Cursor<'_>,
+        setting: Setting,
+        mark: Mark,
+    ) -> Result<HeldItems<Node>, SynFault>
         requires { Nests self.now.left (F.pre self.now.read) (F.post self.now.read) }
         ensures { Reads (spec.items self.now.left (spec.nested self.now.left) setting mark cursor.old) result cursor.new }
     {
@@ -61,7 +66,13 @@ impl<
 
     /// A junction list.
     #[tactic(auto, unfolding(crate::specs::Reading::junction))]
-    fn junction(&self, cursor: &mut Cursor<'_>, all: bool, mark: Mark, setting: Setting) -> Result<Held<Node>, SynFault>
+    fn junction(
+        &self,
+        cursor: &mut Cursor<'_>,
+        all: bool,
+        mark: Mark,
+        setting: Setting,
+    ) -> Result<Held<Node>, SynFault>
         requires { Nests self.now.left (F.pre self.now.read) (F.post self.now.read) }
         ensures { Reads (spec.junction self.now.left (spec.nested self.now.left) all mark setting cursor.old) result cursor.new }
     {

@@ -8,15 +8,15 @@ ghost use Rattle.layout_parser.specs.Input.{Reads, and_then};
 ghost use Rattle.layout_parser.specs.Reading as spec;
 ghost use Rattle.layout_parser.specs.Nests.{Nests, Flats, ended};
 
-use crate::member::{Bound, element, is_whole};
-use core_expr::{Memory, Text};
 use crate::build::{binary, leaf, whole};
 use crate::cursor::Cursor;
 use crate::flat::Flat;
 use crate::grammar::{Grammar, finished};
 use crate::held::{Held, HeldItems};
 use crate::mark::Mark;
+use crate::member::{Bound, element, is_whole};
 use crate::setting::{Around, Setting, Stop};
+use core_expr::{Memory, Text};
 use sqlite_items::Items;
 use std::alloc::Global;
 use tla_ast::{Decl, Form, Node, Place, SynFault};
@@ -43,17 +43,23 @@ impl Fields {
     {
         let name = Text::of(alloc, field.name.bytes())?;
         self.names.push(name)?;
-        self.parts.push(leaf(alloc, Form::Name(field.name), field.place))?;
+        self.parts
+            .push(leaf(alloc, Form::Name(field.name), field.place))?;
         self.parts.push(value)?;
         Ok(())
     }
 }
 
-impl<
-    F: Fn(Global, &mut Cursor<'_>, usize, usize, Setting, bool) -> Result<Flat, Memory>,
-> Grammar<F> {
+impl<F: Fn(Global, &mut Cursor<'_>, usize, usize, Setting, bool) -> Result<Flat, Memory>> Grammar<
+    F,
+> {
     /// One or more `h |-> e` or `h : S`, with commas between.
-    fn fields(&self, cursor: &mut Cursor<'_>, setting: Setting, mark: Mark) -> Result<Fields, SynFault>
+    fn fields(
+        &self,
+        cursor: &mut Cursor<'_>,
+        setting: Setting,
+        mark: Mark,
+    ) -> Result<Fields, SynFault>
         requires { Nests self.now.left (F.pre self.now.read) (F.post self.now.read) }
         ensures { Reads (spec.fields self.now.left (spec.nested self.now.left) setting mark cursor.old) result cursor.new }
     {
@@ -72,7 +78,12 @@ impl<
 
     /// `[h |-> e, ..]`, after the `[`.
     #[tactic(auto, unfolding(crate::specs::Reading::record_of))]
-    fn record_of(&self, cursor: &mut Cursor<'_>, setting: Setting, place: Place) -> Result<Held<Node>, SynFault>
+    fn record_of(
+        &self,
+        cursor: &mut Cursor<'_>,
+        setting: Setting,
+        place: Place,
+    ) -> Result<Held<Node>, SynFault>
         requires { Nests self.now.left (F.pre self.now.read) (F.post self.now.read) }
         ensures { Reads (spec.record_of self.now.left (spec.nested self.now.left) setting place cursor.old) result cursor.new }
     {
@@ -83,7 +94,12 @@ impl<
 
     /// `[h : S, ..]`, after the `[`.
     #[tactic(auto, unfolding(crate::specs::Reading::record_set))]
-    fn record_set(&self, cursor: &mut Cursor<'_>, setting: Setting, place: Place) -> Result<Held<Node>, SynFault>
+    fn record_set(
+        &self,
+        cursor: &mut Cursor<'_>,
+        setting: Setting,
+        place: Place,
+    ) -> Result<Held<Node>, SynFault>
         requires { Nests self.now.left (F.pre self.now.read) (F.post self.now.read) }
         ensures { Reads (spec.record_set self.now.left (spec.nested self.now.left) setting place cursor.old) result cursor.new }
     {
@@ -94,7 +110,13 @@ impl<
 
     /// `[S -> T]`, after the `->`.
     #[tactic(auto, unfolding(crate::specs::Reading::function_set))]
-    fn function_set(&self, cursor: &mut Cursor<'_>, setting: Setting, place: Place, domain: Held<Node>) -> Result<Held<Node>, SynFault>
+    fn function_set(
+        &self,
+        cursor: &mut Cursor<'_>,
+        setting: Setting,
+        place: Place,
+        domain: Held<Node>,
+    ) -> Result<Held<Node>, SynFault>
         requires { Nests self.now.left (F.pre self.now.read) (F.post self.now.read) }
         ensures { Reads (spec.function_set self.now.left (spec.nested self.now.left) setting place domain cursor.old) result cursor.new }
     {
@@ -105,7 +127,13 @@ impl<
 
     /// What follows the first expression in a square bracket.
     #[tactic(auto, unfolding(crate::specs::Reading::square_end))]
-    fn square_end(&self, cursor: &mut Cursor<'_>, setting: Setting, place: Place, first: Held<Node>) -> Result<Held<Node>, SynFault>
+    fn square_end(
+        &self,
+        cursor: &mut Cursor<'_>,
+        setting: Setting,
+        place: Place,
+        first: Held<Node>,
+    ) -> Result<Held<Node>, SynFault>
         requires { Nests self.now.left (F.pre self.now.read) (F.post self.now.read) }
         ensures { Reads (spec.square_end self.now.left (spec.nested self.now.left) setting place first cursor.old) result cursor.new }
     {
@@ -124,7 +152,14 @@ impl<
 
     /// `[x \in S |-> e]`, after the `|->`.
     #[tactic(auto, unfolding(crate::specs::Reading::function))]
-    fn function(&self, cursor: &mut Cursor<'_>, setting: Setting, name: Text, place: Place, set: Held<Node>) -> Result<Held<Node>, SynFault>
+    fn function(
+        &self,
+        cursor: &mut Cursor<'_>,
+        setting: Setting,
+        name: Text,
+        place: Place,
+        set: Held<Node>,
+    ) -> Result<Held<Node>, SynFault>
         requires { Nests self.now.left (F.pre self.now.read) (F.post self.now.read) }
         ensures { Reads (spec.function self.now.left (spec.nested self.now.left) setting name place set cursor.old) result cursor.new }
     {
@@ -134,7 +169,14 @@ impl<
     }
 
     /// A bracket that begins with `x \in S`, where it is no `[x \in S |-> e]`.
-    fn other_member_square(&self, cursor: &mut Cursor<'_>, setting: Setting, place: Place, bound: Bound, set: Flat) -> Result<Held<Node>, SynFault>
+    fn other_member_square(
+        &self,
+        cursor: &mut Cursor<'_>,
+        setting: Setting,
+        place: Place,
+        bound: Bound,
+        set: Flat,
+    ) -> Result<Held<Node>, SynFault>
         requires nests { Nests self.now.left (F.pre self.now.read) (F.post self.now.read) }
         requires set { IsChain true set.pieces.items × AreListed set.pieces.items }
         ensures { Reads (and_then (spec.finished (spec.after_member bound.name bound.place bound.sign (set.pieces.items, ended set.fault cursor.old))) (spec.square_end self.now.left (spec.nested self.now.left) setting place)) result cursor.new }
@@ -145,7 +187,12 @@ impl<
 
     /// A square bracket that begins with `x \in`.
     #[tactic(auto, unfolding(crate::specs::Reading::member_square))]
-    fn member_square(&self, cursor: &mut Cursor<'_>, setting: Setting, place: Place) -> Result<Held<Node>, SynFault>
+    fn member_square(
+        &self,
+        cursor: &mut Cursor<'_>,
+        setting: Setting,
+        place: Place,
+    ) -> Result<Held<Node>, SynFault>
         requires { Nests self.now.left (F.pre self.now.read) (F.post self.now.read) }
         ensures { Reads (spec.member_square self.now.left (spec.nested self.now.left) setting place cursor.old) result cursor.new }
     {
@@ -162,7 +209,12 @@ impl<
 
     /// What follows `[` where that is a name.
     #[tactic(auto, unfolding(crate::specs::Reading::square_name))]
-    fn square_name(&self, cursor: &mut Cursor<'_>, setting: Setting, place: Place) -> Result<Held<Node>, SynFault>
+    fn square_name(
+        &self,
+        cursor: &mut Cursor<'_>,
+        setting: Setting,
+        place: Place,
+    ) -> Result<Held<Node>, SynFault>
         requires { Nests self.now.left (F.pre self.now.read) (F.post self.now.read) }
         ensures { Reads (spec.square_name self.now.left (spec.nested self.now.left) setting place cursor.old) result cursor.new }
     {
@@ -181,7 +233,12 @@ impl<
 
     /// What follows `[`.
     #[tactic(auto, unfolding(crate::specs::Reading::square_from))]
-    fn square_from(&self, cursor: &mut Cursor<'_>, setting: Setting, place: Place) -> Result<Held<Node>, SynFault>
+    fn square_from(
+        &self,
+        cursor: &mut Cursor<'_>,
+        setting: Setting,
+        place: Place,
+    ) -> Result<Held<Node>, SynFault>
         requires { Nests self.now.left (F.pre self.now.read) (F.post self.now.read) }
         ensures { Reads (spec.square_from self.now.left (spec.nested self.now.left) setting place cursor.old) result cursor.new }
     {

@@ -81,9 +81,9 @@ fn field(alloc: Global, cursor: &mut Cursor<'_>, setting: Setting) -> Result<Ste
     }
 }
 
-impl<
-    F: Fn(Global, &mut Cursor<'_>, usize, usize, Setting, bool) -> Result<Flat, Memory>,
-> Grammar<F> {
+impl<F: Fn(Global, &mut Cursor<'_>, usize, usize, Setting, bool) -> Result<Flat, Memory>> Grammar<
+    F,
+> {
     /// The argument of `f[e]`.
     #[tactic(auto, unfolding(crate::specs::Reading::index))]
     fn index(&self, cursor: &mut Cursor<'_>, setting: Setting) -> Result<Held<Node>, SynFault>

@@ -6,7 +6,6 @@ ghost use Rattle.layout_parser.specs.Input.{Reads};
 ghost use Rattle.layout_parser.specs.Reading as spec;
 ghost use Rattle.layout_parser.specs.Nests.{Nests, Flats, ended};
 
-use core_expr::Memory;
 use crate::build::{ternary, whole};
 use crate::cursor::Cursor;
 use crate::flat::Flat;
@@ -14,6 +13,7 @@ use crate::grammar::Grammar;
 use crate::held::{Held, HeldItems};
 use crate::mark::Mark;
 use crate::setting::{Around, Setting, Stop};
+use core_expr::Memory;
 use sqlite_items::{Boxed, Items};
 use std::alloc::Global;
 use tla_ast::{Decl, Def, Form, Node, SynFault};
@@ -43,12 +43,16 @@ fn parameters(
     Err(cursor.refusal(alloc, setting, Stop::Parameter))
 }
 
-impl<
-    F: Fn(Global, &mut Cursor<'_>, usize, usize, Setting, bool) -> Result<Flat, Memory>,
-> Grammar<F> {
+impl<F: Fn(Global, &mut Cursor<'_>, usize, usize, Setting, bool) -> Result<Flat, Memory>> Grammar<
+    F,
+> {
     /// IF.
     #[tactic(auto, unfolding(crate::specs::Reading::conditional))]
-    pub fn conditional(&self, cursor: &mut Cursor<'_>, setting: Setting) -> Result<Held<Node>, SynFault>
+    pub fn conditional(
+        &self,
+        cursor: &mut Cursor<'_>,
+        setting: Setting,
+    ) -> Result<Held<Node>, SynFault>
         requires { Nests self.now.left (F.pre self.now.read) (F.post self.now.read) }
         ensures { Reads (spec.conditional self.now.left (spec.nested self.now.left) setting cursor.old) result cursor.new }
     {
@@ -63,7 +67,11 @@ impl<
 
     /// One arm of a CASE: its guard and its value.
     #[tactic(auto, unfolding(crate::specs::Reading::arm))]
-    fn arm(&self, cursor: &mut Cursor<'_>, setting: Setting) -> Result<(Held<Node>, Held<Node>), SynFault>
+    fn arm(
+        &self,
+        cursor: &mut Cursor<'_>,
+        setting: Setting,
+    ) -> Result<(Held<Node>, Held<Node>), SynFault>
         requires { Nests self.now.left (F.pre self.now.read) (F.post self.now.read) }
         ensures { Reads (spec.arm self.now.left (spec.nested self.now.left) setting cursor.old) result cursor.new }
     {
@@ -75,7 +83,12 @@ impl<
 
     /// The value of OTHER, after that word.
     #[tactic(auto, unfolding(crate::specs::Reading::other_arm))]
-    fn other_arm(&self, cursor: &mut Cursor<'_>, setting: Setting, parts: HeldItems<Node>) -> Result<Arms, SynFault>
+    fn other_arm(
+        &self,
+        cursor: &mut Cursor<'_>,
+        setting: Setting,
+        parts: HeldItems<Node>,
+    ) -> Result<Arms, SynFault>
         requires { Nests self.now.left (F.pre self.now.read) (F.post self.now.read) }
         ensures { Reads (spec.other_arm self.now.left (spec.nested self.now.left) setting parts cursor.old) result cursor.new }
     {
@@ -171,7 +184,11 @@ impl<
     }
 
     /// One or more definitions, and the IN.
-    fn definitions(&self, cursor: &mut Cursor<'_>, setting: Setting) -> Result<HeldItems<Def>, SynFault>
+    fn definitions(
+        &self,
+        cursor: &mut Cursor<'_>,
+        setting: Setting,
+    ) -> Result<HeldItems<Def>, SynFault>
         requires { Nests self.now.left (F.pre self.now.read) (F.post self.now.read) }
         ensures { Reads (spec.definitions self.now.left (spec.nested self.now.left) setting cursor.old) result cursor.new }
     {

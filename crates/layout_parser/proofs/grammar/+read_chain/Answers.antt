@@ -1,4 +1,4 @@
-use Rattle.std.proofs.Common.{◌≡◌, sym, subst, arith}
+use Rattle.std.proofs.Common.{sym, subst, arith}
 use Rattle.layout_parser.specs.Reading.{nested}
 use Rattle.layout_parser.specs.Nests.{Flats}
 use Rattle.layout_parser.proofs.Turns.{deeper}

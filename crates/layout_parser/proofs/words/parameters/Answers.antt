@@ -1,6 +1,6 @@
 use Rattle.std.proofs.Common.{rules, arith}
 use Rattle.std.proofs.lemmas.Grind.{common_steps}
-use Rattle.layout_parser.specs.Reading.{nested, parameter_list, parameters_from}
+use Rattle.layout_parser.specs.Reading.{parameter_list, parameters_from}
 use Rattle.layout_parser.proofs.Turns.{one_more, no_more}
 use Rattle.layout_parser.proofs.words.parameters.Goals as goal
 

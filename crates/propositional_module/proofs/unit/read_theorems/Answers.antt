@@ -1,6 +1,6 @@
 use Rattle.std.proofs.Common.{◌≡◌, ◌-◌, length, sym, subst, ap, arith}
 use Rattle.propositional_module.specs.Kept.{behind}
-use Rattle.propositional_module.specs.Units.{theorem, theorems, place_at}
+use Rattle.propositional_module.specs.Units.{theorem, theorems}
 use Rattle.propositional_module.specs.Faults.{IsFault, left_out}
 use Rattle.propositional_module.proofs.Runs.{fails-at, refused, theorems-next, theorems-fail, theorems-stop, one_more, no_more}
 use Rattle.propositional_module.proofs.unit.read_theorems.Goals as goal

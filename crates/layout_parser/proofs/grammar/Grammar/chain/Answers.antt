@@ -1,6 +1,6 @@
-use Rattle.std.proofs.Common.{◌≡◌, ◌∙◌, sym, subst, Ok}
-use Rattle.layout_parser.specs.Nests.{Steps, Flats}
-use Rattle.layout_parser.specs.Reading.{nested, chain_from, behind, step}
+use Rattle.std.proofs.Common.{◌∙◌, sym, subst}
+use Rattle.layout_parser.specs.Nests.{Flats}
+use Rattle.layout_parser.specs.Reading.{nested, chain_from, behind}
 use Rattle.layout_parser.proofs.Turns.{one_more, no_more}
 use Rattle.layout_parser.proofs.ChainLaws.{chain-more, chain-stop, chain-broken, chain-none}
 use Rattle.layout_parser.proofs.grammar.Grammar.chain.Goals as goal

@@ -1,6 +1,3 @@
-use Rattle.std.specs.Result.{IfOk}
-use Rattle.std.specs.Prelude.{Result, Ok, Err}
-use Rattle.layout_parser.specs.Reading.{nested}
 use Rattle.layout_parser.proofs.ChainLaws.{front, front-chain-of, front-listed-of}
 use Rattle.layout_parser.proofs.grammar.Grammar.inner.Goals as goal
 
