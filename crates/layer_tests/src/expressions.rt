@@ -320,7 +320,9 @@ fn places_of_nodes(rt: HostRuntime) -> Result<(), Fail> {
 }
 
 /// Texts with no reading, and the fault.
-const REFUSED: [(&str, &str); 176] = [
+const REFUSED: [(&str, &str); 178] = [
+    ("[A]_ ,", "2:6 Expected"),
+    ("{<<a>> \\in [A]_ : b}", "2:17 Unsupported :"),
     ("", "3:1 Expected"),
     (")", "2:1 Expected"),
     ("+ a", "2:1 Expected"),

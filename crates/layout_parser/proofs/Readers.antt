@@ -23,6 +23,7 @@ use Rattle.operator_chain.specs.declared.chain.Piece.{Piece}
 use Rattle.operator_chain.specs.declared.chain.Piece.TheVariants as piece
 use Rattle.layout_parser.specs.declared.mark.Mark.{Mark}
 use Rattle.layout_parser.specs.declared.mark.Mark.TheVariants as m
+use Rattle.layout_parser.specs.declared.setting.Around.{Around}
 use Rattle.layout_parser.specs.declared.setting.Around.TheVariants as around
 use Rattle.layout_parser.specs.declared.setting.Setting.{Setting}
 use Rattle.layout_parser.specs.declared.setting.Stop.TheVariants as stop
@@ -386,11 +387,11 @@ module _ (left : ℕ) (inner : ChainReader) (law : OneRightTree) (good : Good in
   unfolding rule.updates
   updates s f ts us rest e = updates-from (length ts) s (rule.no_updates f) ts us rest e
 
-  square-end : (s : Setting) (ts mid rest : Tokens) (n x : Node) → Stands s.region m.OpenSquare ts → Read s.region s.has_at (next ts) mid (same s.region s.has_at x ∷ [])
-      → rule.square_end left inner s (here ts) x mid ≡ Ok (n, rest) → Derives s.region s.has_at ts rest n
+  square-end : (outer : Around) (s : Setting) (ts mid rest : Tokens) (n x : Node) → Stands s.region m.OpenSquare ts → Read s.region s.has_at (next ts) mid (same s.region s.has_at x ∷ [])
+      → rule.square_end left inner outer s (here ts) x mid ≡ Ok (n, rest) → Derives s.region s.has_at ts rest n
   unfolding rule.square_end rule.function_set rule.except
-  square-end s ts mid rest n x at r e = by-test e
-      (λ act e1. got e1 (λ v t2 e2 f2. let h = subscript s (next mid) t2 v e2 in
+  square-end outer s ts mid rest n x at r e = by-test e
+      (λ act e1. got e1 (λ v t2 e2 f2. let h = subscript (within outer s) (next mid) t2 v e2 in
       derived f2 (spell.box_action x v h.parts (here ts) h.made) (on-sign-at at (both r (on-sign (stands s m.CloseBox mid refl act) h.read)))))
       (λ _ e1. by-test e1
       (λ arrow e2. got e2 (λ y t3 e3 f3. eaten s stop.Expression m.CloseSquare _ refl f3 (λ close f4.
@@ -401,28 +402,28 @@ module _ (left : ℕ) (inner : ChainReader) (law : OneRightTree) (good : Good in
       (on-sign-at at (both r (on-sign (stands s m.Except mid refl word-seen) (both h.read (on-sign close nothing))))))))
       (λ _ e3. refused e3)))
 
-  member-square : (s : Setting) (ts rest : Tokens) (n : Node) → Stands s.region m.OpenSquare ts → Stands s.region m.Name (next ts) → Stands s.region m.Belongs (next (next ts))
-      → rule.member_square left inner s (here ts) (next ts) ≡ Ok (n, rest) → Derives s.region s.has_at ts rest n
+  member-square : (outer : Around) (s : Setting) (ts rest : Tokens) (n : Node) → Stands s.region m.OpenSquare ts → Stands s.region m.Name (next ts) → Stands s.region m.Belongs (next (next ts))
+      → rule.member_square left inner outer s (here ts) (next ts) ≡ Ok (n, rest) → Derives s.region s.has_at ts rest n
   unfolding rule.member_square rule.function set-chain
-  member-square s ts rest n at name-at sign-at e = let c = set-chain s (next ts) in by-test {b = is_whole s m.Maps c} e
+  member-square outer s ts rest n at name-at sign-at e = let c = set-chain s (next ts) in by-test {b = is_whole s m.Maps c} e
       (λ whole e1. got e1 (λ set mid e2 f2. got f2 (λ x t3 e3 f3. eaten s stop.Expression m.CloseSquare _ refl f3 (λ close f4.
       derived f4 (spell.function (spelling (first (next ts)).tok) set x (here (next ts)))
       (on-sign at (on-word name-at (on-sign sign-at (on-finished law s c (le s.region) e2 (λ xs us is. full _ s _ us xs (le _) is)
       (on-sign (stands s m.Maps mid refl (whole-sees s m.Maps c c.0 mid (finish c set mid e2).chain whole)) (on-same s e3 (on-sign close nothing)))))))))))
-      (λ _ e1. got e1 (λ x mid e2 f2. square-end s ts mid rest n x at (on-finished law s _ (le s.region) e2 (member-chain s (next ts) name-at sign-at) nothing) f2))
+      (λ _ e1. got e1 (λ x mid e2 f2. square-end outer s ts mid rest n x at (on-finished law s _ (le s.region) e2 (member-chain s (next ts) name-at sign-at) nothing) f2))
 
-  square-name : (s : Setting) (ts rest : Tokens) (n : Node) → Stands s.region m.OpenSquare ts → Stands s.region m.Name (next ts) → rule.square_name left inner s (here ts) (next ts) ≡ Ok (n, rest) → Derives s.region s.has_at ts rest n
+  square-name : (outer : Around) (s : Setting) (ts rest : Tokens) (n : Node) → Stands s.region m.OpenSquare ts → Stands s.region m.Name (next ts) → rule.square_name left inner outer s (here ts) (next ts) ≡ Ok (n, rest) → Derives s.region s.has_at ts rest n
   unfolding rule.square_name sees_second
-  square-name s ts rest n at name-at e = by-test {b = sees s m.Maps (next (next ts))} e (λ _ e1. record-of s ts rest n at e1)
+  square-name outer s ts rest n at name-at e = by-test {b = sees s m.Maps (next (next ts))} e (λ _ e1. record-of s ts rest n at e1)
       (λ _ e1. by-test {b = sees s m.Colon (next (next ts))} e1 (λ _ e2. record-set s ts rest n at e2)
-      (λ _ e2. by-test {b = sees s m.Belongs (next (next ts))} e2 (λ seen e3. member-square s ts rest n at name-at (stands s m.Belongs (next (next ts)) refl seen) e3)
-      (λ _ e3. got e3 (λ x mid e4 f4. square-end s ts mid rest n x at (on-same s e4 nothing) f4))))
+      (λ _ e2. by-test {b = sees s m.Belongs (next (next ts))} e2 (λ seen e3. member-square outer s ts rest n at name-at (stands s m.Belongs (next (next ts)) refl seen) e3)
+      (λ _ e3. got e3 (λ x mid e4 f4. square-end outer s ts mid rest n x at (on-same s e4 nothing) f4))))
 
   square : (s : Setting) (ts rest : Tokens) (n : Node) → Stands s.region m.OpenSquare ts → rule.square left inner s ts ≡ Ok (n, rest) → Derives s.region s.has_at ts rest n
   unfolding rule.square rule.square_from
   square s ts rest n at e = begun left _ _ e (λ f0. by-test f0
-      (λ seen f1. square-name (within around.Square s) ts rest n at (stands (within around.Square s) m.Name (next ts) refl seen) f1)
-      (λ _ f1. got f1 (λ x mid e2 f2. square-end (within around.Square s) ts mid rest n x at (on-same (within around.Square s) e2 nothing) f2)))
+      (λ seen f1. square-name s.around (within around.Square s) ts rest n at (stands (within around.Square s) m.Name (next ts) refl seen) f1)
+      (λ _ f1. got f1 (λ x mid e2 f2. square-end s.around (within around.Square s) ts mid rest n x at (on-same (within around.Square s) e2 nothing) f2)))
 
   -- ---- bound names
 

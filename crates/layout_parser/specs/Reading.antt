@@ -25,6 +25,7 @@ use Rattle.operator_chain.specs.Tree.{Tree, node_of, hole}
 use Rattle.operator_chain.specs.Chain.{tree_of, fault_of}
 use Rattle.layout_parser.specs.declared.mark.Mark.{Mark}
 use Rattle.layout_parser.specs.declared.mark.Mark.TheVariants as m
+use Rattle.layout_parser.specs.declared.setting.Around.{Around}
 use Rattle.layout_parser.specs.declared.setting.Around.TheVariants as around
 use Rattle.layout_parser.specs.declared.setting.Setting.{Setting}
 use Rattle.layout_parser.specs.declared.setting.Stop.TheVariants as stop
@@ -456,10 +457,10 @@ module _ (left : ℕ) (inner : ChainReader) where
     expect s stop.Expression m.CloseSquare
     pure (node (form.Except us.paths) us.parts place)
 
-  -- what follows the first expression in a square bracket
-  unfoldable pub square_end : Setting → Place → Node → Reader Node
-  square_end s place e = λ ts.
-      let act = ((λ v. node form.BoxAct (e ∷ v ∷ []) place) <$> subscript s) (next ts) in
+  -- What follows the first expression in a square bracket. A subscript stands behind the bracket, so in what is round that.
+  unfoldable pub square_end : Around → Setting → Place → Node → Reader Node
+  square_end outer s place e = λ ts.
+      let act = ((λ v. node form.BoxAct (e ∷ v ∷ []) place) <$> subscript (within outer s)) (next ts) in
       let sets = function_set s place e (next ts) in
       let changed = except s place e (next ts) in
       let bad : Outcome Node = refuse s stop.Expression ts in
@@ -474,32 +475,32 @@ module _ (left : ℕ) (inner : ChainReader) where
 
   -- A bracket that begins with `x \in`: `[x \in S |-> e]` where S is read as a whole and a `|->` follows, and else another bracket
   -- whose first expression begins with `x \in`.
-  unfoldable pub member_square : Setting → Place → Reader Node
-  member_square s place = λ ts.
+  unfoldable pub member_square : Around → Setting → Place → Reader Node
+  member_square outer s place = λ ts.
       let c = inner (length (next (next ts))) s true (next (next ts)) in
       let found = and_then (finished c) (λ set rest. function s (spelling (first ts).tok) (here ts) set (next rest)) in
-      let other = and_then (finished (after_member (spelling (first ts).tok) (here ts) (here (next ts)) c)) (square_end s place) in
+      let other = and_then (finished (after_member (spelling (first ts).tok) (here ts) (here (next ts)) c)) (square_end outer s place) in
       if is_whole s m.Maps c then found else other
 
   -- after `[`, where it begins with a name
-  unfoldable pub square_name : Setting → Place → Reader Node
-  square_name s place = λ ts.
+  unfoldable pub square_name : Around → Setting → Place → Reader Node
+  square_name outer s place = λ ts.
       let values = record_of s place ts in
       let sets = record_set s place ts in
-      let member = member_square s place ts in
-      let plain = (part s >>= square_end s place) ts in
+      let member = member_square outer s place ts in
+      let plain = (part s >>= square_end outer s place) ts in
       if sees_second s m.Maps ts then values
       else (if sees_second s m.Colon ts then sets else (if sees_second s m.Belongs ts then member else plain))
 
   -- after `[`
-  unfoldable pub square_from : Setting → Place → Reader Node
-  square_from s place = λ ts.
-      let named = square_name s place ts in
-      let plain = (part s >>= square_end s place) ts in
+  unfoldable pub square_from : Around → Setting → Place → Reader Node
+  square_from outer s place = λ ts.
+      let named = square_name outer s place ts in
+      let plain = (part s >>= square_end outer s place) ts in
       if sees s m.Name ts then named else plain
 
   unfoldable pub square : Setting → Reader Node
-  square s = opening left >>= square_from (within around.Square s)
+  square s = opening left >>= square_from s.around (within around.Square s)
 
   -- ---- bound names
 

@@ -130,15 +130,16 @@ impl<F: Fn(Global, &mut Cursor<'_>, usize, usize, Setting, bool) -> Result<Flat,
     fn square_end(
         &self,
         cursor: &mut Cursor<'_>,
+        outer: Around,
         setting: Setting,
         place: Place,
         first: Held<Node>,
     ) -> Result<Held<Node>, SynFault>
         requires { Nests self.now.left (F.pre self.now.read) (F.post self.now.read) }
-        ensures { Reads (spec.square_end self.now.left (spec.nested self.now.left) setting place first cursor.old) result cursor.new }
+        ensures { Reads (spec.square_end self.now.left (spec.nested self.now.left) outer setting place first cursor.old) result cursor.new }
     {
         if cursor.eat(setting, Mark::CloseBox) {
-            let subscript = self.subscript(cursor, setting)?;
+            let subscript = self.subscript(cursor, setting.within(outer))?;
             return Ok(binary(self.alloc, Form::BoxAct, first, subscript, place)?);
         }
         if cursor.eat(setting, Mark::Arrow) {
@@ -172,6 +173,7 @@ impl<F: Fn(Global, &mut Cursor<'_>, usize, usize, Setting, bool) -> Result<Flat,
     fn other_member_square(
         &self,
         cursor: &mut Cursor<'_>,
+        outer: Around,
         setting: Setting,
         place: Place,
         bound: Bound,
@@ -179,10 +181,10 @@ impl<F: Fn(Global, &mut Cursor<'_>, usize, usize, Setting, bool) -> Result<Flat,
     ) -> Result<Held<Node>, SynFault>
         requires nests { Nests self.now.left (F.pre self.now.read) (F.post self.now.read) }
         requires set { IsChain true set.pieces.items × AreListed set.pieces.items }
-        ensures { Reads (and_then (spec.finished (spec.after_member bound.name bound.place bound.sign (set.pieces.items, ended set.fault cursor.old))) (spec.square_end self.now.left (spec.nested self.now.left) setting place)) result cursor.new }
+        ensures { Reads (and_then (spec.finished (spec.after_member bound.name bound.place bound.sign (set.pieces.items, ended set.fault cursor.old))) (spec.square_end self.now.left (spec.nested self.now.left) outer setting place)) result cursor.new }
     {
         let element = element(self.alloc, bound, set)?;
-        self.square_end(cursor, setting, place, element)
+        self.square_end(cursor, outer, setting, place, element)
     }
 
     /// A square bracket that begins with `x \in`.
@@ -190,17 +192,18 @@ impl<F: Fn(Global, &mut Cursor<'_>, usize, usize, Setting, bool) -> Result<Flat,
     fn member_square(
         &self,
         cursor: &mut Cursor<'_>,
+        outer: Around,
         setting: Setting,
         place: Place,
     ) -> Result<Held<Node>, SynFault>
         requires { Nests self.now.left (F.pre self.now.read) (F.post self.now.read) }
-        ensures { Reads (spec.member_square self.now.left (spec.nested self.now.left) setting place cursor.old) result cursor.new }
+        ensures { Reads (spec.member_square self.now.left (spec.nested self.now.left) outer setting place cursor.old) result cursor.new }
     {
         let bound = Bound::read(self.alloc, cursor)?;
         let most = cursor.left();
         let set = self.inner(cursor, most, setting, true)?;
         if !is_whole(self.alloc, cursor, setting, &set, Mark::Maps)? {
-            return self.other_member_square(cursor, setting, place, bound, set);
+            return self.other_member_square(cursor, outer, setting, place, bound, set);
         }
         let set = finished(self.alloc, set)?;
         cursor.advance();
@@ -212,11 +215,12 @@ impl<F: Fn(Global, &mut Cursor<'_>, usize, usize, Setting, bool) -> Result<Flat,
     fn square_name(
         &self,
         cursor: &mut Cursor<'_>,
+        outer: Around,
         setting: Setting,
         place: Place,
     ) -> Result<Held<Node>, SynFault>
         requires { Nests self.now.left (F.pre self.now.read) (F.post self.now.read) }
-        ensures { Reads (spec.square_name self.now.left (spec.nested self.now.left) setting place cursor.old) result cursor.new }
+        ensures { Reads (spec.square_name self.now.left (spec.nested self.now.left) outer setting place cursor.old) result cursor.new }
     {
         if cursor.sees_second(setting, Mark::Maps) {
             return self.record_of(cursor, setting, place);
@@ -225,10 +229,10 @@ impl<F: Fn(Global, &mut Cursor<'_>, usize, usize, Setting, bool) -> Result<Flat,
             return self.record_set(cursor, setting, place);
         }
         if cursor.sees_second(setting, Mark::Belongs) {
-            return self.member_square(cursor, setting, place);
+            return self.member_square(cursor, outer, setting, place);
         }
         let first = self.part(cursor, setting)?;
-        self.square_end(cursor, setting, place, first)
+        self.square_end(cursor, outer, setting, place, first)
     }
 
     /// What follows `[`.
@@ -236,17 +240,18 @@ impl<F: Fn(Global, &mut Cursor<'_>, usize, usize, Setting, bool) -> Result<Flat,
     fn square_from(
         &self,
         cursor: &mut Cursor<'_>,
+        outer: Around,
         setting: Setting,
         place: Place,
     ) -> Result<Held<Node>, SynFault>
         requires { Nests self.now.left (F.pre self.now.read) (F.post self.now.read) }
-        ensures { Reads (spec.square_from self.now.left (spec.nested self.now.left) setting place cursor.old) result cursor.new }
+        ensures { Reads (spec.square_from self.now.left (spec.nested self.now.left) outer setting place cursor.old) result cursor.new }
     {
         if cursor.sees(setting, Mark::Name) {
-            return self.square_name(cursor, setting, place);
+            return self.square_name(cursor, outer, setting, place);
         }
         let first = self.part(cursor, setting)?;
-        self.square_end(cursor, setting, place, first)
+        self.square_end(cursor, outer, setting, place, first)
     }
 
     /// Functions, records, their sets, EXCEPT and `[A]_v`.
@@ -256,6 +261,11 @@ impl<F: Fn(Global, &mut Cursor<'_>, usize, usize, Setting, bool) -> Result<Flat,
         ensures { Reads (spec.square self.now.left (spec.nested self.now.left) setting cursor.old) result cursor.new }
     {
         let place = cursor.opening(self.left)?;
-        self.square_from(cursor, setting.within(Around::Square), place)
+        self.square_from(
+            cursor,
+            setting.around,
+            setting.within(Around::Square),
+            place,
+        )
     }
 }
