@@ -1,3 +1,5 @@
+ghost use Rattle.tla_ast.specs.Listing.{IsTokenList};
+
 use crate::dump::{push_node, push_place};
 use core_expr::Memory;
 use layout_parser::read_expr;
@@ -50,7 +52,9 @@ fn push_reading(
     out: &mut Vec<u8>,
     tokens: &Tokens,
     way: &Way,
-) -> Result<(), Memory> {
+) -> Result<(), Memory>
+    requires { IsTokenList tokens.now.list }
+{
     if way.from >= tokens.list.len() as u64 || way.depth > 200 {
         return Ok(());
     }
