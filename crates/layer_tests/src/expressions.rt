@@ -47,12 +47,7 @@ fn push_refusal(
 }
 
 /// Appends the place of the token after the expression and its node, or the refusal.
-fn push_reading(
-    alloc: Global,
-    out: &mut Vec<u8>,
-    tokens: &Tokens,
-    way: &Way,
-) -> Result<(), Memory>
+fn push_reading(alloc: Global, out: &mut Vec<u8>, tokens: &Tokens, way: &Way) -> Result<(), Memory>
     requires { IsTokenList tokens.now.list }
 {
     if way.from >= tokens.list.len() as u64 || way.depth > 200 {
