@@ -1,9 +1,8 @@
 -- The nodes and the spans of a node over its parts.
-use Rattle.std.proofs.Common.{◌≡◌, ℕ, suc, ◌+◌, ◌<◌, true, nat_eq, nat_lt, Option, List, [], ◌∷◌, ◌++◌, length, refl, ap, sym, ◌∙◌, arith, append_assoc, append-nil}
+use Rattle.std.proofs.Common.{◌≡◌, ℕ, suc, ◌+◌, ◌<◌, true, nat_eq, nat_lt, List, [], ◌∷◌, ◌++◌, length, refl, ap, sym, ◌∙◌, arith, append_assoc, append-nil}
 use Rattle.std.specs.Prelude.{Result, Ok, Err, IfOk}
 use Rattle.std.proofs.lemmas.Bool.Decides.{nat_tests}
 use Rattle.std.proofs.lemmas.Bool.{and_parts, and_from, eqb-true}
-use Rattle.core_expr.specs.declared.head.Sym.{Sym}
 use Rattle.core_expr.specs.declared.head.Head.{Head}
 use Rattle.core_expr.specs.declared.head.Binder.{Binder}
 use Rattle.core_expr.specs.declared.head.Head.TheVariants.{True, False, Num, Str, Boolean, Not, And, Or, Imp, Iff, Eq, In, Subseteq, Enum, Cup, Cap, Diff, Power, Union, FunSet, Dom, Apply, Except, Tuple, If, Temporal}
@@ -12,7 +11,7 @@ use Rattle.core_expr.specs.declared.row.Row.{Row}
 use Rattle.core_expr.specs.declared.row.RowKind.{RowKind}
 use Rattle.core_expr.specs.declared.row.RowKind.TheVariants.{Bound, Symbol, Plain, Binding}
 use Rattle.core_expr.specs.Tree.{Tree, size}
-use Rattle.core_expr.specs.Heads.{kind_fits, plain_fits, is_only, is_empty, is_text, are_bytes, binder_arity, first, kept_numbers, table_numbers, parts_of, list_of, subtrees, front, back, make_kind, is_well_formed, are_well_formed, is_head, kind_for, fits, HasBody}
+use Rattle.core_expr.specs.Heads.{kind_fits, plain_fits, is_only, is_empty, is_text, are_bytes, binder_arity, first, kept_numbers, table_numbers, parts_of, list_of, subtrees, front, back, make_kind, is_well_formed, are_well_formed, takes, counts, HasBody}
 use Rattle.core_expr.specs.Flat.{row, rows_at, rows_of, all_rows}
 use Rattle.core_expr.specs.Spans.{spans_of, nodes_in, spans_in, rows_in, rows_under}
 use Rattle.core_expr.proofs.SpanLaws.{spans-subtrees, nodes-subtrees, spans_in-append, length-rows_at}
@@ -179,11 +178,17 @@ ok_map (Ok x) P Q f h = f x h
 ok_map (Err e) P Q f h = h
 
 -- a fitting node of a binder has a body
-pub has_body : (h : ℕ) (f : Option Sym) (k : RowKind) (ns : List ℕ) (n : ℕ) → fits h f ns n ≡ true → k ≡ kind_for h f → HasBody k n
-has_body h f k ns n p q = go k (rw (sym q) at (and_parts (is_head h f) (kind_fits (kind_for h f) ns n) p).1)
+pub kind_body : (k : RowKind) (ns : List ℕ) (n : ℕ) → kind_fits k ns n ≡ true → HasBody k n
+kind_body Bound ns n w = tt
+kind_body (Symbol g) ns n w = tt
+kind_body (Plain g) ns n w = tt
+kind_body (Binding b) ns n w = binding_parts b ns n w
+
+-- where a head takes so many parts, their count fits, and no number is kept
+pub takes-fits : (h : Head) (k : ℕ) → takes h k ≡ true → (plain_fits h (counts h k) k ≡ true) × (kept_numbers h (counts h k) ≡ [])
+takes-fits h k =
+    elim h as (λ h. takes h k ≡ true → (plain_fits h (counts h k) k ≡ true) × (kept_numbers h (counts h k) ≡ []))
+    [ True ↦ λ p. (p, refl) | False ↦ λ p. (p, refl) | Num ↦ λ p. cc | Str ↦ λ p. cc | Boolean ↦ λ p. (p, refl) | Not ↦ λ p. (p, refl) | And ↦ λ p. (p, refl) | Or ↦ λ p. (p, refl) | Imp ↦ λ p. (p, refl) | Iff ↦ λ p. (p, refl) | Eq ↦ λ p. (p, refl) | In ↦ λ p. (p, refl) | Subseteq ↦ λ p. (p, refl) | Enum ↦ λ _. (same, refl) | Cup ↦ λ p. (p, refl) | Cap ↦ λ p. (p, refl) | Diff ↦ λ p. (p, refl) | Power ↦ λ p. (p, refl) | Union ↦ λ p. (p, refl) | FunSet ↦ λ p. (p, refl) | Dom ↦ λ p. (p, refl) | Apply ↦ λ p. (p, refl) | Except ↦ λ p. (p, refl) | Tuple ↦ λ _. (same, refl) | If ↦ λ p. (p, refl) | Temporal ↦ λ p. (p, refl) ]
   where
-    go : (k : RowKind) → kind_fits k ns n ≡ true → HasBody k n
-    go Bound w = tt
-    go (Symbol g) w = tt
-    go (Plain g) w = tt
-    go (Binding b) w = binding_parts b ns n w
+    same : is_only k (k ∷ []) ≡ true
+    same = and_from _ _ (let e : nat_eq k k ≡ true = grind (arith, nat_tests) in e) refl

@@ -6,6 +6,7 @@ pub mod SpanLaws
 pub mod BuildLaws
 pub mod PlaceLaws
 pub mod Fed
+pub mod LiftLaws
 pub mod RenameLaws
 pub mod Shown
 pub mod IndexLaws

@@ -21,39 +21,7 @@ use Rattle.core_expr.specs.Coding.{tree_of-rows_of}
 use Rattle.core_expr.specs.Rename.{named, all_formed, body_for, is_free_row, lifted_row, lifted, begin, between, argument_rows, filled_row, filled, is_variable, root_symbol, applied_symbol, put_nodes, next_nodes, next_starts, renamed}
 use Rattle.core_expr.proofs.Laws.{size-shifts, size-puts, size-subs}
 use Rattle.core_expr.proofs.Formed.{formed-put}
-
--- lifting
-lifted-append : (k d : ℕ) (rs qs : List Row) → lifted k d (rs ++ qs) ≡ lifted k d rs ++ lifted k d qs
-lifted-append k d [] qs = refl
-lifted-append k d (r ∷ rs) qs = ap (λ (l : List Row). lifted_row k d r ∷ l) (lifted-append k d rs qs)
-
-lifted_bound : (k d c i x y : ℕ) → x ≡ d + c → y ≡ x + k → lifted_row k d (row Bound (i ∷ []) 0 x) ≡ row Bound (cond (nat_lt i c) i (i + k) ∷ []) 0 y
-lifted_bound k d c i x y p q =
-    let z : x - d ≡ c = omega arith in
-    elim (cases_lt i c) [
-      | inl l ↦
-          let a : nat_lt i c ≡ true = grind (arith, nat_tests) in
-          let b : nat_le (x - d) i ≡ false = grind (arith, nat_tests) in
-          rw (a, b, q)
-      | inr l ↦
-          let a : nat_lt i c ≡ false = grind (arith, nat_tests) in
-          let b : nat_le (x - d) i ≡ true = grind (arith, nat_tests) in
-          rw (a, b, q)
-    ]
-
-mutual
-  lifted-rows_at : (k d c x y : ℕ) (t : Tree) → x ≡ d + c → y ≡ x + k → lifted k d (rows_at x t) ≡ rows_at y (shift c k t)
-  lifted-rows_at k d c x y (bound i) p q = ap (λ (r : Row). r ∷ []) (lifted_bound k d c i x y p q)
-  lifted-rows_at k d c x y (app f ps) p q =
-      rw (lifted-append k d (all_rows x ps) (row (Symbol f) [] (size ps) x ∷ []), lifted-all_rows k d c x y ps p q, size-shifts c k ps, q)
-  lifted-rows_at k d c x y (node f ns ps) p q =
-      rw (lifted-append k d (all_rows x ps) (row (Plain f) (table_numbers f ns (size ps)) (size ps) x ∷ []), lifted-all_rows k d c x y ps p q, size-shifts c k ps, q)
-  lifted-rows_at k d c x y (bind b ps e) p q =
-      rw (lifted-append k d (all_rows x ps) (rows_at (suc x) e ++ row (Binding b) [] (suc (size ps)) x ∷ []), lifted-append k d (rows_at (suc x) e) (row (Binding b) [] (suc (size ps)) x ∷ []), lifted-all_rows k d c x y ps p q, lifted-rows_at k d (suc c) (suc x) (suc y) e (omega arith) (omega arith), size-shifts c k ps, q)
-
-  lifted-all_rows : (k d c x y : ℕ) (ps : Parts) → x ≡ d + c → y ≡ x + k → lifted k d (all_rows x ps) ≡ all_rows y (shifts c k ps)
-  lifted-all_rows k d c x y end p q = refl
-  lifted-all_rows k d c x y (part e ps) p q = rw (lifted-append k d (rows_at x e) (all_rows x ps), lifted-rows_at k d c x y e p q, lifted-all_rows k d c x y ps p q)
+use Rattle.core_expr.proofs.LiftLaws.{lifted-rows_at}
 
 -- filling
 filled-append : (out : List Row) (starts : List ℕ) (r : Row) (rs qs : List Row) → filled out starts r (rs ++ qs) ≡ filled out starts r rs ++ filled out starts r qs
@@ -70,7 +38,7 @@ filled_bound out starts r ts h k y i q =
       | inr l ↦
           let a : nat_lt i k ≡ false = grind (arith, nat_tests) in
           let b : nat_le k i ≡ true = grind (arith, nat_tests) in
-          rw (a, b, h (i - k)) (lifted-rows_at k r.depth 0 r.depth y (argument ts (i - k)) (omega arith) (omega arith))
+          rw (a, b, h (i - k)) (lifted-rows_at k k r.depth 0 r.depth y (argument ts (i - k)) (omega arith) (omega arith))
     ]
 
 mutual
@@ -410,11 +378,6 @@ formed_pair bs i p h e w k =
 -- steps of the loops
 read : {A : Type 0} → (xs : List A) (i : ℕ) (x : A) → i < length xs → x ≡ get_or xs i x → drop i xs ≡ x ∷ drop (i + 1) xs
 read xs i x h e = drop-cons xs i x h ∙ (let q : suc i ≡ i + 1 = omega arith in let f : get_or xs i x ≡ x = sym e in λ j. f j ∷ drop (q j) xs)
-
-pub lift_step : (k d : ℕ) (rs : List Row) (i : ℕ) (r q : Row) (old new start : List Row) → i < length rs → r ≡ get_or rs i r → old ≡ start ++ lifted k d (take i rs) → q ≡ lifted_row k d r → new ≡ old ++ q ∷ [] → new ≡ start ++ lifted k d (take (i + 1) rs)
-lift_step k d rs i r q old new start h e o m w =
-    let t : take (i + 1) rs ≡ take i rs ++ r ∷ [] = (take_at_read rs i r h).1 ∙ ap (λ (x : Row). take i rs ++ x ∷ []) (sym e) in
-    rw (t, lifted-append k d (take i rs) (r ∷ []), ← append_assoc, ← o, ← m) w
 
 pub fill_step : (out : List Row) (starts : List ℕ) (r : Row) (bs : List Row) (i : ℕ) (b : Row) (old new : List Row) → i < length bs → b ≡ get_or bs i b → old ≡ filled out starts r (take i bs) → new ≡ old ++ filled_row out starts r b → new ≡ filled out starts r (take (i + 1) bs)
 fill_step out starts r bs i b old new h e o w =

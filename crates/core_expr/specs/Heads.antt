@@ -2,6 +2,8 @@
 use Rattle.std.specs.Prelude.{ℕ, ◌+◌, ◌<◌, Bool, true, false, IsTrue, ◌&&◌, nat_lt, nat_eq, Option, Some, None, List, [], ◌∷◌, ◌++◌, length}
 use Rattle.std.proofs.Common.{get_or}
 use Rattle.core_expr.specs.declared.head.Sym.{Sym}
+use Rattle.core_expr.specs.declared.head.SymKind.{SymKind}
+use Rattle.core_expr.specs.declared.head.SymKind.TheVariants.{Constant, State, Primed, Defined, DefinedPrimed, Canon}
 use Rattle.core_expr.specs.declared.head.Head.{Head}
 use Rattle.core_expr.specs.declared.head.Binder.{Binder}
 use Rattle.core_expr.specs.declared.head.Head.TheVariants.{True, False, Num, Str, Boolean, Not, And, Or, Imp, Iff, Eq, In, Subseteq, Enum, Cup, Cap, Diff, Power, Union, FunSet, Dom, Apply, Except, Tuple, If, Temporal}
@@ -98,6 +100,20 @@ plain_fits Enum ns k = is_only k ns
 plain_fits Tuple ns k = is_only k ns
 plain_fits h ns k = is_empty ns && nat_eq k (head_arity h)
 
+-- the numbers of a node with this head and k parts that has no others: the count of an Enum or a Tuple
+abbrev pub counts : Head → ℕ → List ℕ
+counts Enum k = k ∷ []
+counts Tuple k = k ∷ []
+counts _ k = []
+
+-- a head may have k parts and no numbers but their count
+abbrev pub takes : Head → ℕ → Bool
+takes Num k = false
+takes Str k = false
+takes Enum k = true
+takes Tuple k = true
+takes h k = nat_eq k (head_arity h)
+
 -- a node of this kind may have these numbers and so many parts
 abbrev pub kind_fits : RowKind → List ℕ → ℕ → Bool
 kind_fits Bound ns k = nat_eq (length ns) 1 && nat_eq k 0
@@ -191,6 +207,43 @@ abbrev mutual
 -- every node has the numbers and the number of parts that the table asks
 abbrev pub IsWellFormed : Tree → Type 0
 IsWellFormed t = IsTrue (is_well_formed t)
+
+-- a symbol of a canonical form
+abbrev pub is_canon : SymKind → Bool
+is_canon Canon = true
+is_canon Constant = false
+is_canon State = false
+is_canon Primed = false
+is_canon Defined = false
+is_canon DefinedPrimed = false
+
+-- any head but the temporal mark
+abbrev pub is_lasting : Head → Bool
+is_lasting Temporal = false
+is_lasting _ = true
+
+-- a node that a canonical expression may have
+abbrev pub is_canonical_kind : RowKind → Bool
+is_canonical_kind Bound = true
+is_canonical_kind (Symbol f) = is_canon f.kind
+is_canonical_kind (Plain h) = is_lasting h
+is_canonical_kind (Binding b) = true
+
+-- the symbols are those of a canonical form, and there is no temporal mark
+abbrev mutual
+  pub is_canonical : Tree → Bool
+  is_canonical (bound i) = true
+  is_canonical (app f ps) = is_canon f.kind && are_canonical ps
+  is_canonical (node h ns ps) = is_lasting h && are_canonical ps
+  is_canonical (bind b ps e) = are_canonical ps && is_canonical e
+
+  pub are_canonical : Parts → Bool
+  are_canonical end = true
+  are_canonical (part e ps) = is_canonical e && are_canonical ps
+
+-- the symbols are those of a canonical form, and there is no temporal mark
+abbrev pub IsCanonical : Tree → Type 0
+IsCanonical t = IsTrue (is_canonical t)
 
 -- a binder has a part, its body
 abbrev pub HasBody : RowKind → ℕ → Type 0

@@ -4,6 +4,7 @@ pub mod Terms
 pub mod Equal
 pub mod Heads
 pub mod Nodes
+pub mod Loose
 pub mod Flat
 pub mod Rows
 pub mod Spans

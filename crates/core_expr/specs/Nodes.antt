@@ -1,11 +1,12 @@
 -- Tables of shared nodes: each node names its parts by their places before it.
-use Rattle.std.specs.Prelude.{ℕ, suc, ◌<◌, Bool, true, false, IsTrue, ◌&&◌, nat_lt, nat_eq, None, List, [], ◌∷◌, ◌++◌, length}
+use Rattle.std.specs.Prelude.{ℕ, suc, ◌<◌, Bool, IsTrue, ◌&&◌, cond, nat_lt, nat_eq, List, [], ◌∷◌, ◌++◌, length}
 use Rattle.std.proofs.Common.{get_or}
 use Rattle.core_expr.specs.declared.head.Sym.{Sym}
 use Rattle.core_expr.specs.declared.head.SymKind.TheVariants.{Canon}
 use Rattle.core_expr.specs.Tree.{Tree, true_}
-use Rattle.core_expr.specs.Tree.Tree.{app}
-use Rattle.core_expr.specs.Heads.{fits, make, parts_of}
+use Rattle.core_expr.specs.declared.row.RowKind.{RowKind}
+use Rattle.core_expr.specs.declared.row.RowKind.TheVariants.{Bound, Symbol, Plain, Binding}
+use Rattle.core_expr.specs.Heads.{kind_at, kind_fits, first, after_first, make_kind}
 
 -- a node over earlier nodes: its head number, its numbers (of a symbol's node the symbol's number and arity), and the
 -- places of its parts
@@ -18,23 +19,30 @@ pub record Node : Type 0 where
 abbrev pub canon_sym : ℕ → ℕ → Sym
 canon_sym n a = record { kind = Canon; number = n; arity = a }
 
--- a symbol's number and arity, and as many parts
-abbrev pub symbol_fits : List ℕ → ℕ → Bool
-symbol_fits (n ∷ a ∷ []) k = nat_eq k a
-symbol_fits _ k = false
+-- what a node with this head number and these numbers is
+abbrev pub node_kind : ℕ → List ℕ → RowKind
+node_kind h ns = cond (nat_eq h 6) (Symbol (canon_sym (first ns) (first (after_first ns)))) (kind_at h)
 
--- the table allows a node with this head number, these numbers and so many parts; the temporal mark is no such node
+-- the numbers of a node of a table: of a symbol's node the symbol's number and arity
+abbrev pub node_numbers : RowKind → List ℕ → List ℕ
+node_numbers Bound ns = ns
+node_numbers (Symbol f) ns = f.number ∷ f.arity ∷ []
+node_numbers (Plain h) ns = ns
+node_numbers (Binding b) ns = ns
+
+-- a node of this kind may have these numbers in a table, and so many parts
+abbrev pub numbers_fit : RowKind → List ℕ → ℕ → Bool
+numbers_fit (Symbol f) ns k = nat_eq (length ns) 2 && nat_eq k f.arity
+numbers_fit r ns k = kind_fits r ns k
+
+-- the table of heads allows a node with this head number, these numbers and so many parts; the temporal mark is no such
+-- node
 abbrev pub node_fits : ℕ → List ℕ → ℕ → Bool
-node_fits h ns k = nat_lt h 33 && elim (nat_eq h 6) [ true ↦ symbol_fits ns k | false ↦ fits h None ns k ]
-
--- the node of a symbol with this number and arity
-abbrev pub make_symbol : List ℕ → List Tree → Tree
-make_symbol (n ∷ a ∷ ns) ts = app (canon_sym n a) (parts_of ts)
-make_symbol _ ts = true_
+node_fits h ns k = nat_lt h 33 && numbers_fit (node_kind h ns) ns k
 
 -- the tree with this head number, these numbers and parts
 abbrev pub node_make : ℕ → List ℕ → List Tree → Tree
-node_make h ns ts = elim (nat_eq h 6) [ true ↦ make_symbol ns ts | false ↦ make h None ns ts ]
+node_make h ns ts = make_kind (node_kind h ns) ns ts
 
 -- the trees at these places
 abbrev pub picked : List Tree → List ℕ → List Tree

@@ -32,14 +32,14 @@ abbrev pub is_free_row : ℕ → RowKind → Row → Bool
 is_free_row d Bound r = nat_le (r.depth - d) (first r.numbers)
 is_free_row d k r = false
 
--- the node under k more binders: a variable that is free from depth d on keeps what it names
-abbrev pub lifted_row : ℕ → ℕ → Row → Row
-lifted_row k d r = cond (is_free_row d r.kind r) (row r.kind ((first r.numbers + k) ∷ []) r.parts (r.depth + k)) (raised_row k r)
+-- the node under u more binders: a variable that is free from depth d on goes up by k
+abbrev pub lifted_row : ℕ → ℕ → ℕ → Row → Row
+lifted_row u k d r = cond (is_free_row d r.kind r) (row r.kind ((first r.numbers + k) ∷ []) r.parts (r.depth + u)) (raised_row u r)
 
--- the nodes of an expression, whose root stands under d binders, under k more
-abbrev pub lifted : ℕ → ℕ → List Row → List Row
-lifted k d [] = []
-lifted k d (r ∷ rs) = lifted_row k d r ∷ lifted k d rs
+-- the nodes of an expression, whose root stands under d binders, under u more, and its free variables up by k
+abbrev pub lifted : ℕ → ℕ → ℕ → List Row → List Row
+lifted u k d [] = []
+lifted u k d (r ∷ rs) = lifted_row u k d r ∷ lifted u k d rs
 
 -- where the last n subtrees begin; where there are none, at the end
 abbrev pub begin : ℕ → List ℕ → ℕ → ℕ
@@ -57,7 +57,7 @@ argument_rows out starts r j =
 -- a node of what is put for a symbol, with the argument for a loose variable
 abbrev pub filled_row : List Row → List ℕ → Row → Row → List Row
 filled_row out starts r b =
-    cond (is_loose_row b.kind b) (lifted b.depth r.depth (argument_rows out starts r (first b.numbers - b.depth))) (raised_row r.depth b ∷ [])
+    cond (is_loose_row b.kind b) (lifted b.depth b.depth r.depth (argument_rows out starts r (first b.numbers - b.depth))) (raised_row r.depth b ∷ [])
 
 -- the nodes of what is put for a symbol, with the arguments for the loose variables
 abbrev pub filled : List Row → List ℕ → Row → List Row → List Row

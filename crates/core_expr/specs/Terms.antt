@@ -1,5 +1,5 @@
 -- Tests of equality and closedness, size, prefix code and the order of terms.
-use Rattle.std.specs.Prelude.{ℕ, suc, ◌+◌, Bool, true, false, nat_lt, nat_eq, List, [], ◌∷◌, ◌++◌, length}
+use Rattle.std.specs.Prelude.{ℕ, suc, ◌+◌, ◌/◌, ◌%◌, Bool, true, false, nat_lt, nat_eq, List, [], ◌∷◌, ◌++◌, length}
 use Rattle.core_expr.specs.declared.head.Sym.{Sym}
 use Rattle.core_expr.specs.declared.head.SymKind.{SymKind}
 use Rattle.core_expr.specs.declared.head.SymKind.TheVariants.{Constant, State, Primed, Defined, DefinedPrimed, Canon}
@@ -7,9 +7,13 @@ use Rattle.core_expr.specs.declared.head.Head.{Head}
 use Rattle.core_expr.specs.declared.head.Binder.{Binder}
 use Rattle.core_expr.specs.declared.head.Head.TheVariants.{True, False, Num, Str, Boolean, Not, And, Or, Imp, Iff, Eq, In, Subseteq, Enum, Cup, Cap, Diff, Power, Union, FunSet, Dom, Apply, Except, Tuple, If, Temporal}
 use Rattle.core_expr.specs.declared.head.Binder.TheVariants.{All, Ex, Filter, Image, Fun, Choose}
-use Rattle.core_expr.specs.Tree.{Tree, Parts, size}
+use Rattle.core_expr.specs.Tree.{Tree, Parts, size, num_}
 use Rattle.core_expr.specs.Tree.Tree.{bound, app, node, bind}
 use Rattle.core_expr.specs.Tree.Parts.{end, part}
+
+-- the numeral of a value, in two halves
+abbrev pub numeral_of : ℕ → Tree
+numeral_of n = num_ (n / 18446744073709551616) (n % 18446744073709551616)
 
 abbrev pub lists_equal : List ℕ → List ℕ → Bool
 lists_equal [] [] = true

@@ -1,14 +1,16 @@
+//! An expression as its nodes, and what is read of it.
 ghost use Rattle.std.specs.Prelude.{◌≡◌, ◌↔◌, ◌<◌, ◌++◌, length, slice_index_or, IsTrue, IfOk};
 ghost use Rattle.core_expr.specs.Tree.{true_};
-ghost use Rattle.core_expr.specs.Heads.{IsWellFormed, fits, make, parts_of, front, back, are_well_formed, subtrees, kind_number, kind_symbol, HasBody};
+ghost use Rattle.core_expr.specs.Heads.{IsWellFormed, fits, kind_fits, make, make_kind, parts_of, front, back, are_well_formed, subtrees, kind_number, kind_symbol, HasBody};
 ghost use Rattle.core_expr.specs.Flat.{rows_of, rows_at, tree_of, row_at};
 ghost use Rattle.core_expr.specs.Spans.{spans_of, spans_in, rows_in, rows_under};
 ghost use Rattle.core_expr.specs.Places.{subtree, kind_of, root_numbers, part_index, RootAt};
-ghost use Rattle.core_expr.specs.Put.{inst, IsScoped};
+ghost use Rattle.core_expr.specs.Put.{shift, inst, IsScoped};
 
 use crate::forest::Forest;
 use crate::head::Sym;
 use crate::kinds::{kind_for, kind_number, kind_symbol};
+use crate::lifting::lift;
 use crate::memory::Memory;
 use crate::row::{Row, RowKind};
 use crate::rows::{are_rows_scoped, copy_rows, replace_all, same_rows};
@@ -87,21 +89,18 @@ fn children(alloc: Global, kind: RowKind, parts: Vec<Expr>) -> Result<Forest, Me
 }
 
 impl Expr {
-    /// The node with this head number of the table of heads, this symbol, these numbers and these parts. Its cost is
-    /// that of the nodes of all parts but the first, and of a binder's body.
-    pub fn build(
+    /// The node of this kind with these numbers and parts. Its cost is that of the nodes of all parts but the first, and
+    /// of a binder's body.
+    pub(crate) fn of_kind(
         alloc: Global,
-        head: u64,
-        sym: Option<Sym>,
-        numbers: &[u64],
+        kind: RowKind,
+        numbers: Items<u64>,
         parts: Vec<Expr>,
     ) -> Result<Expr, Memory>
-        requires { IsTrue (fits head sym numbers.now (length parts.items)) }
-        ensures { IfOk result (λ e. e ≡ make head sym numbers.now parts.items) }
+        requires { IsTrue (kind_fits kind numbers (length parts.items)) }
+        ensures { IfOk result (λ e. e ≡ make_kind kind numbers parts.items) }
     {
-        let kind = kind_for(head, sym);
         let count = parts.len() as u64;
-        let numbers = Items::from_slice(alloc, numbers)?;
         let Forest {
             mut rows,
             mut spans,
@@ -114,6 +113,22 @@ impl Expr {
         })?;
         spans.push(rows.len() as u64)?;
         Ok(Expr { rows, spans })
+    }
+
+    /// The node with this head number of the table of heads, this symbol, these numbers and these parts: for the flat
+    /// lists, which name heads by their numbers.
+    pub fn build(
+        alloc: Global,
+        head: u64,
+        sym: Option<Sym>,
+        numbers: &[u64],
+        parts: Vec<Expr>,
+    ) -> Result<Expr, Memory>
+        requires { IsTrue (fits head sym numbers.now (length parts.items)) }
+        ensures { IfOk result (λ e. e ≡ make head sym numbers.now parts.items) }
+    {
+        let numbers = Items::from_slice(alloc, numbers)?;
+        Expr::of_kind(alloc, kind_for(head, sym), numbers, parts)
     }
 
     /// The expression of these nodes.
@@ -160,13 +175,22 @@ impl Expr {
         self.rows.len() as u64
     }
 
+    /// What the node `i` is.
+    pub fn kind(&self, i: u64) -> RowKind
+        requires { i < length (rows_of self.now) }
+        ensures row { result ≡ (row_at self.now i).kind }
+        ensures tree { result ≡ kind_of (subtree self.now i) }
+    {
+        self.row(i).kind
+    }
+
     /// The head number of the node `i`.
     pub fn head(&self, i: u64) -> u64
         requires { i < length (rows_of self.now) }
         ensures row { result ≡ kind_number (row_at self.now i).kind }
         ensures tree { result ≡ kind_number (kind_of (subtree self.now i)) }
     {
-        kind_number(self.row(i).kind)
+        kind_number(self.kind(i))
     }
 
     /// The symbol of the node `i`: None exactly where its head number is not 6.
@@ -175,7 +199,7 @@ impl Expr {
         ensures row { result ≡ kind_symbol (row_at self.now i).kind }
         ensures tree { result ≡ kind_symbol (kind_of (subtree self.now i)) }
     {
-        kind_symbol(self.row(i).kind)
+        kind_symbol(self.kind(i))
     }
 
     /// The numbers of the node `i`, as `build` takes them.
@@ -233,6 +257,16 @@ impl Expr {
     {
         let rows = replace_all(alloc, self.rows.as_slice(), t.rows.as_slice())?;
         Expr::of_rows(alloc, rows)
+    }
+
+    /// The expression with the index of each loose variable up by `by`.
+    pub fn lift(&self, alloc: Global, by: u64) -> Result<Expr, Memory>
+        ensures { IfOk result (λ e. e ≡ shift 0 by self.now) }
+    {
+        let _ = self.length();
+        let mut rows = Vec::new(alloc);
+        lift(alloc, &mut rows, self.rows(), 0, by, 0)?;
+        Expr::of_rows(alloc, Items::from_vec(rows))
     }
 
     /// Whether no loose variable has an index from `n` on.

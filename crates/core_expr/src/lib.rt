@@ -11,10 +11,12 @@
 
 mod canon;
 mod compare;
+mod construct;
 mod expr;
 mod forest;
 mod head;
 mod kinds;
+mod lifting;
 mod memory;
 mod rename;
 mod row;

@@ -1,71 +1,20 @@
+//! Substitutes expressions for symbols, on the nodes of an expression.
 ghost use Rattle.std.specs.Prelude.{◌≡◌, ◌↔◌, ◌<◌, ◌∷◌, ◌++◌, Some, None, IsTrue, IfOk, OnOk, MatchOption, length, drop, [], true};
 ghost use Rattle.core_expr.specs.Heads.{is_well_formed, is_empty, is_only};
 ghost use Rattle.core_expr.specs.Flat.{rows_of, row};
 ghost use Rattle.core_expr.specs.Put.{sub};
 ghost use Rattle.core_expr.specs.Index.{named_at, Indexes};
-ghost use Rattle.core_expr.specs.Rename.{named, all_formed, body_for, is_free_row, lifted_row, lifted, begin, between, argument_rows, filled_row, filled, is_variable, root_symbol, applied_symbol, put_nodes, next_nodes, next_starts, renamed};
+ghost use Rattle.core_expr.specs.Rename.{named, all_formed, body_for, lifted, begin, between, argument_rows, filled_row, filled, is_variable, root_symbol, applied_symbol, put_nodes, next_nodes, next_starts, renamed};
 
 use crate::expr::Expr;
 use crate::head::{Head, Sym};
+use crate::lifting::lift;
 use crate::memory::Memory;
 use crate::row::{Row, RowKind};
 use crate::rows::{copy_row, first_number, is_loose};
 use sqlite_items::Items;
 use std::alloc::Global;
 use std::collections::HashMap;
-
-/// Puts the item at the end.
-fn push<T: Drop>(items: &mut Vec<T>, item: T) -> Result<(), Memory>
-    ensures { OnOk result (items.new.items ≡ items.old.items ++ item ∷ []) }
-{
-    match items.push(item) {
-        Ok(()) => Ok(()),
-        Err(_) => Err(Memory),
-    }
-}
-
-/// Whether the node, of an expression whose root stands under `depth` binders, is a variable that no binder of that
-/// expression binds.
-fn is_free(row: &Row, depth: u64) -> bool
-    ensures { result ≡ is_free_row depth row.now.kind row.now }
-{
-    match row.kind {
-        RowKind::Bound => first_number(row.numbers.as_slice()) >= row.depth.saturating_sub(depth),
-        _ => false,
-    }
-}
-
-/// The node under `by` more binders. Its expression's root stood under `depth`.
-fn lift_row(alloc: Global, row: &Row, by: u64, depth: u64) -> Result<Row, Memory>
-    ensures { IfOk result (λ r. r ≡ lifted_row by depth row.now) }
-{
-    let Some(deeper) = row.depth.checked_add(by) else {
-        return Err(Memory);
-    };
-    if !is_free(row, depth) {
-        return copy_row(alloc, row, deeper);
-    }
-    let Some(index) = first_number(row.numbers.as_slice()).checked_add(by) else {
-        return Err(Memory);
-    };
-    let numbers = Items::from_slice(alloc, &[index])?;
-    Ok(Row {
-        kind: row.kind,
-        numbers,
-        parts: row.parts,
-        depth: deeper,
-    })
-}
-
-/// Puts the nodes of an expression whose root stands under `depth` binders, under `by` more, at the end of `out`.
-fn lift(alloc: Global, out: &mut Vec<Row>, rows: &[Row], by: u64, depth: u64) -> Result<(), Memory>
-    ensures { OnOk result (out.new.items ≡ out.old.items ++ lifted by depth rows.now) }
-{
-    for row in rows {
-        push(out, lift_row(alloc, row, by, depth)?)?;
-    }
-    Ok(())
-}
 
 /// Where the last `count` completed subtrees begin, `end` where there are none.
 fn begin(starts: &[usize], count: u64, end: usize) -> usize
@@ -96,25 +45,23 @@ fn put_argument(
     index: u64,
     by: u64,
 ) -> Result<(), Memory>
-    ensures { OnOk result (out.new.items ≡ out.old.items ++ lifted by row.now.depth (argument_rows rows.now starts.now row.now index)) }
+    ensures { OnOk result (out.new.items ≡ out.old.items ++ lifted by by row.now.depth (argument_rows rows.now starts.now row.now index)) }
 {
     if index < row.parts {
         let from = begin(starts, index + 1, rows.len());
         let to = begin(starts, index, rows.len());
-        return lift(alloc, out, between(rows, from, to), by, row.depth);
+        return lift(alloc, out, between(rows, from, to), by, by, row.depth);
     }
     let Some(deeper) = row.depth.checked_add(by) else {
         return Err(Memory);
     };
-    push(
-        out,
-        Row {
-            kind: RowKind::Plain(Head::True),
-            numbers: Items::new(alloc),
-            parts: 0,
-            depth: deeper,
-        },
-    )
+    out.push(Row {
+        kind: RowKind::Plain(Head::True),
+        numbers: Items::new(alloc),
+        parts: 0,
+        depth: deeper,
+    })?;
+    Ok(())
 }
 
 /// Puts the node `node` of what is put for the node `row` at the end of `out`, or an argument where it is a loose
@@ -136,7 +83,8 @@ fn fill_one(
     let Some(deeper) = node.depth.checked_add(row.depth) else {
         return Err(Memory);
     };
-    push(out, copy_row(alloc, node, deeper)?)
+    out.push(copy_row(alloc, node, deeper)?)?;
+    Ok(())
 }
 
 /// The nodes of what is put for the node `row`, with the arguments for the loose variables.
@@ -238,7 +186,8 @@ fn put_body(
             parts: row.parts,
             depth: row.depth,
         };
-        return push(out, applied);
+        out.push(applied)?;
+        return Ok(());
     }
     let mut filled = fill(alloc, out.as_slice(), starts, row, body)?;
     out.truncate(begin(starts, row.parts, out.len()));
@@ -311,7 +260,10 @@ fn complete(
 {
     match body_for(by, places, row.kind) {
         Some(body) => put_body(alloc, out, starts, row, body.rows()),
-        None => push(out, copy_row(alloc, row, row.depth)?),
+        None => {
+            out.push(copy_row(alloc, row, row.depth)?)?;
+            Ok(())
+        }
     }
 }
 
@@ -321,7 +273,8 @@ fn restart(starts: &mut Vec<usize>, row: &Row, end: usize) -> Result<(), Memory>
 {
     let start = begin(starts.as_slice(), row.parts, end);
     starts.truncate(starts.len().saturating_sub(row.parts as usize));
-    push(starts, start)
+    starts.push(start)?;
+    Ok(())
 }
 
 /// The nodes once each symbol is replaced.
