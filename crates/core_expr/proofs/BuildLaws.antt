@@ -1,6 +1,7 @@
 -- The nodes and the spans of a node over its parts.
-use Rattle.std.proofs.Common.{◌≡◌, ℕ, suc, ◌+◌, ◌<◌, true, nat_eq, nat_lt, List, [], ◌∷◌, ◌++◌, length, refl, ap, sym, ◌∙◌, arith, append_assoc, append-nil}
+use Rattle.std.proofs.Common.{◌≡◌, ℕ, suc, ◌+◌, ◌<◌, true, nat_eq, nat_lt, List, [], ◌∷◌, ◌++◌, length, refl, ap, sym, ◌∙◌, arith, append_assoc, append-nil, take, get_or}
 use Rattle.std.specs.Prelude.{Result, Ok, Err, IfOk}
+use Rattle.std.proofs.lemmas.Grind.{take_at_read}
 use Rattle.std.proofs.lemmas.Bool.Decides.{nat_tests}
 use Rattle.std.proofs.lemmas.Bool.{and_parts, and_from, eqb-true}
 use Rattle.core_expr.specs.declared.head.Head.{Head}
@@ -11,7 +12,7 @@ use Rattle.core_expr.specs.declared.row.Row.{Row}
 use Rattle.core_expr.specs.declared.row.RowKind.{RowKind}
 use Rattle.core_expr.specs.declared.row.RowKind.TheVariants.{Bound, Symbol, Plain, Binding}
 use Rattle.core_expr.specs.Tree.{Tree, size}
-use Rattle.core_expr.specs.Heads.{kind_fits, plain_fits, is_only, is_empty, is_text, are_bytes, binder_arity, first, kept_numbers, table_numbers, parts_of, list_of, subtrees, front, back, make_kind, is_well_formed, are_well_formed, takes, counts, HasBody}
+use Rattle.core_expr.specs.Heads.{kind_fits, plain_fits, is_only, is_empty, is_text, are_bytes, binder_arity, first, kept_numbers, table_numbers, parts_of, list_of, subtrees, front, back, make_kind, is_well_formed, are_well_formed, HasBody}
 use Rattle.core_expr.specs.Flat.{row, rows_at, rows_of, all_rows}
 use Rattle.core_expr.specs.Spans.{spans_of, nodes_in, spans_in, rows_in, rows_under}
 use Rattle.core_expr.proofs.SpanLaws.{spans-subtrees, nodes-subtrees, spans_in-append, length-rows_at}
@@ -184,11 +185,13 @@ kind_body (Symbol g) ns n w = tt
 kind_body (Plain g) ns n w = tt
 kind_body (Binding b) ns n w = binding_parts b ns n w
 
--- where a head takes so many parts, their count fits, and no number is kept
-pub takes-fits : (h : Head) (k : ℕ) → takes h k ≡ true → (plain_fits h (counts h k) k ≡ true) × (kept_numbers h (counts h k) ≡ [])
-takes-fits h k =
-    elim h as (λ h. takes h k ≡ true → (plain_fits h (counts h k) k ≡ true) × (kept_numbers h (counts h k) ≡ []))
-    [ True ↦ λ p. (p, refl) | False ↦ λ p. (p, refl) | Num ↦ λ p. cc | Str ↦ λ p. cc | Boolean ↦ λ p. (p, refl) | Not ↦ λ p. (p, refl) | And ↦ λ p. (p, refl) | Or ↦ λ p. (p, refl) | Imp ↦ λ p. (p, refl) | Iff ↦ λ p. (p, refl) | Eq ↦ λ p. (p, refl) | In ↦ λ p. (p, refl) | Subseteq ↦ λ p. (p, refl) | Enum ↦ λ _. (same, refl) | Cup ↦ λ p. (p, refl) | Cap ↦ λ p. (p, refl) | Diff ↦ λ p. (p, refl) | Power ↦ λ p. (p, refl) | Union ↦ λ p. (p, refl) | FunSet ↦ λ p. (p, refl) | Dom ↦ λ p. (p, refl) | Apply ↦ λ p. (p, refl) | Except ↦ λ p. (p, refl) | Tuple ↦ λ _. (same, refl) | If ↦ λ p. (p, refl) | Temporal ↦ λ p. (p, refl) ]
-  where
-    same : is_only k (k ∷ []) ≡ true
-    same = and_from _ _ (let e : nat_eq k k ≡ true = grind (arith, nat_tests) in e) refl
+are_bytes-append : (bs cs : List ℕ) → are_bytes bs ≡ true → are_bytes cs ≡ true → are_bytes (bs ++ cs) ≡ true
+are_bytes-append [] cs h k = k
+are_bytes-append (b ∷ bs) cs h k = let p = and_parts (nat_lt b 256) (are_bytes bs) h in and_from _ _ p.0 (are_bytes-append bs cs p.1 k)
+
+-- one more byte of a text
+pub text_step : (bs : List ℕ) (i b n : ℕ) (old new : List ℕ) → i < length bs → b ≡ get_or bs i b → b < 256 → (old ≡ n ∷ take i bs) × (are_bytes (take i bs) ≡ true) → new ≡ old ++ b ∷ [] → (new ≡ n ∷ take (i + 1) bs) × (are_bytes (take (i + 1) bs) ≡ true)
+text_step bs i b n old new h e l o w =
+    let t : take (i + 1) bs ≡ take i bs ++ b ∷ [] = (take_at_read bs i b h).1 ∙ ap (λ x. take i bs ++ x ∷ []) (sym e) in
+    let byte : nat_lt b 256 ≡ true = grind (arith, nat_tests) in
+    (w ∙ ap (λ ns. ns ++ b ∷ []) o.0 ∙ ap (λ bs. n ∷ bs) (sym t), ap are_bytes t ∙ are_bytes-append (take i bs) (b ∷ []) o.1 (and_from _ _ byte refl))

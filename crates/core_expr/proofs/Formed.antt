@@ -9,7 +9,7 @@ use Rattle.core_expr.specs.Heads.{is_well_formed, are_well_formed}
 use Rattle.core_expr.proofs.Laws.{size-puts, size-shifts}
 
 mutual
-  formed-shift : (c k : ℕ) (e : Tree) → is_well_formed (shift c k e) ≡ is_well_formed e
+  pub formed-shift : (c k : ℕ) (e : Tree) → is_well_formed (shift c k e) ≡ is_well_formed e
   formed-shift c k (bound i) = refl
   formed-shift c k (app f ps) = rw (size-shifts c k ps, formed-shifts c k ps)
   formed-shift c k (node h ns ps) = rw (size-shifts c k ps, formed-shifts c k ps)

@@ -10,3 +10,6 @@ pub mod LiftLaws
 pub mod RenameLaws
 pub mod Shown
 pub mod IndexLaws
+pub mod NodeLaws
+pub mod LooseLaws
+pub mod Proved

@@ -20,13 +20,13 @@ use Rattle.core_expr.specs.Coding.{kept-table}
 use Rattle.core_expr.proofs.SpanLaws.{length-list_of}
 use Rattle.core_expr.proofs.BuildLaws.{size-parts_of, table-kept, subtrees-make, formed-make, front-push, back-push, no_numbers, one_number}
 
-kind_of-make : (k : RowKind) (ns : List ℕ) (ts : List Tree) → kind_of (make_kind k ns ts) ≡ k
+pub kind_of-make : (k : RowKind) (ns : List ℕ) (ts : List Tree) → kind_of (make_kind k ns ts) ≡ k
 kind_of-make Bound ns ts = refl
 kind_of-make (Symbol f) ns ts = refl
 kind_of-make (Plain h) ns ts = refl
 kind_of-make (Binding b) ns ts = refl
 
-root_numbers-make : (k : RowKind) (ns : List ℕ) (ts : List Tree) → kind_fits k ns (length ts) ≡ true → root_numbers (make_kind k ns ts) ≡ ns
+pub root_numbers-make : (k : RowKind) (ns : List ℕ) (ts : List Tree) → kind_fits k ns (length ts) ≡ true → root_numbers (make_kind k ns ts) ≡ ns
 root_numbers-make Bound ns ts h = sym (one_number ns (eqb-true (length ns) 1 (and_parts (nat_eq (length ns) 1) (nat_eq (length ts) 0) h).0))
 root_numbers-make (Symbol f) ns ts h = sym (no_numbers ns (and_parts (is_empty ns) (nat_eq (length ts) f.arity) h).0)
 root_numbers-make (Plain g) ns ts h = rw (size-parts_of ts) (table-kept g ns (length ts) h)
@@ -58,24 +58,30 @@ no_symbol (Symbol f) h = cc
 no_symbol (Plain g) h = refl
 no_symbol (Binding b) h = refl
 
-number-of : (h : ℕ) (f : Option Sym) → is_head h f ≡ true → kind_number (kind_for h f) ≡ h
+pub kind_at-number : (h : ℕ) → h < 34 → nat_eq h 6 ≡ false → kind_number (kind_at h) ≡ h
 unfolding table_test
-number-of h (Some f) p = sym (eqb-true h 6 p)
-number-of h None p =
+kind_at-number h l e = eqb-true (kind_number (kind_at h)) h (ap (λ b. elim b as (λ _. Bool) [ true ↦ true | false ↦ nat_eq (kind_number (kind_at h)) h ]) (sym e) ∙ table_holds h l)
+
+pub kind_at-symbol : (h : ℕ) → h < 34 → kind_symbol (kind_at h) ≡ None
+kind_at-symbol h l = no_symbol (kind_at h) (plain_holds h l)
+
+-- a head number of the table that is no symbol's
+pub no_symbol-head : (h : ℕ) → is_head h None ≡ true → (h < 34) × (nat_eq h 6 ≡ false)
+no_symbol-head h p =
     let q = and_parts (nat_lt h 34) (elim (nat_eq h 6) [ true ↦ false | false ↦ true ]) p in
-    let l : h < 34 = let m : nat_lt h 34 ≡ true = q.0 in grind (arith, nat_tests) in
-    go (nat_eq h 6) refl q.1 (table_holds h l)
+    (let m : nat_lt h 34 ≡ true = q.0 in grind (arith, nat_tests), go (nat_eq h 6) refl q.1)
   where
-    go : (b : Bool) → nat_eq h 6 ≡ b → elim b [ true ↦ false | false ↦ true ] ≡ true → elim b [ true ↦ true | false ↦ nat_eq (kind_number (kind_at h)) h ] ≡ true → kind_number (kind_at h) ≡ h
-    go true e x y = cc
-    go false e x y = eqb-true (kind_number (kind_at h)) h y
+    go : (b : Bool) → nat_eq h 6 ≡ b → elim b [ true ↦ false | false ↦ true ] ≡ true → nat_eq h 6 ≡ false
+    go true e x = cc
+    go false e x = e
+
+number-of : (h : ℕ) (f : Option Sym) → is_head h f ≡ true → kind_number (kind_for h f) ≡ h
+number-of h (Some f) p = sym (eqb-true h 6 p)
+number-of h None p = let q = no_symbol-head h p in kind_at-number h q.0 q.1
 
 symbol-of : (h : ℕ) (f : Option Sym) → is_head h f ≡ true → kind_symbol (kind_for h f) ≡ f
 symbol-of h (Some f) p = refl
-symbol-of h None p =
-    let q = and_parts (nat_lt h 34) (elim (nat_eq h 6) [ true ↦ false | false ↦ true ]) p in
-    let l : h < 34 = let m : nat_lt h 34 ≡ true = q.0 in grind (arith, nat_tests) in
-    no_symbol (kind_at h) (plain_holds h l)
+symbol-of h None p = kind_at-symbol h (no_symbol-head h p).0
 
 pub made-shows : (h : ℕ) (f : Option Sym) (ns : List ℕ) (ts : List Tree) → fits h f ns (length ts) ≡ true → Shows h f ns ts (make h f ns ts)
 made-shows h f ns ts w =
@@ -103,7 +109,7 @@ bound_kind : kind_at 5 ≡ Bound
 unfolding kind_at kind_table
 bound_kind = refl
 
-kind_back : (k : RowKind) → kind_for (kind_number k) (kind_symbol k) ≡ k
+pub kind_back : (k : RowKind) → kind_for (kind_number k) (kind_symbol k) ≡ k
 kind_back Bound = bound_kind
 kind_back (Symbol f) = refl
 kind_back (Plain h) = head_kind h
@@ -113,7 +119,7 @@ parts_of-list_of : (ps : Parts) → parts_of (list_of ps) ≡ ps
 parts_of-list_of end = refl
 parts_of-list_of (part e ps) = ap (part e) (parts_of-list_of ps)
 
-kind_makes : (t : Tree) → make_kind (kind_of t) (root_numbers t) (subtrees t) ≡ t
+pub kind_makes : (t : Tree) → make_kind (kind_of t) (root_numbers t) (subtrees t) ≡ t
 kind_makes (bound i) = refl
 kind_makes (app f ps) = ap (app f) (parts_of-list_of ps)
 kind_makes (node h ns ps) = λ i. node h (kept-table h ns (size ps) i) (parts_of-list_of ps i)
@@ -128,13 +134,13 @@ head_below = elim [ True ↦ refl | False ↦ refl | Num ↦ refl | Str ↦ refl
 binder_below : (b : Binder) → is_head (binder_code b) None ≡ true
 binder_below = elim [ All ↦ refl | Ex ↦ refl | Filter ↦ refl | Image ↦ refl | Fun ↦ refl | Choose ↦ refl ]
 
-is_head-kind : (k : RowKind) → is_head (kind_number k) (kind_symbol k) ≡ true
+pub is_head-kind : (k : RowKind) → is_head (kind_number k) (kind_symbol k) ≡ true
 is_head-kind Bound = refl
 is_head-kind (Symbol f) = refl
 is_head-kind (Plain h) = head_below h
 is_head-kind (Binding b) = binder_below b
 
-kind_fits-shown : (t : Tree) → is_well_formed t ≡ true → kind_fits (kind_of t) (root_numbers t) (length (subtrees t)) ≡ true
+pub kind_fits-shown : (t : Tree) → is_well_formed t ≡ true → kind_fits (kind_of t) (root_numbers t) (length (subtrees t)) ≡ true
 kind_fits-shown (bound i) h = refl
 kind_fits-shown (app f ps) h = rw (length-list_of ps) ((and_parts (nat_eq (size ps) f.arity) (are_well_formed ps) h).0)
 kind_fits-shown (node g ns ps) h = rw (length-list_of ps) ((and_parts (plain_fits g (table_numbers g ns (size ps)) (size ps)) (are_well_formed ps) h).0)

@@ -1,5 +1,5 @@
-use Rattle.core_expr.proofs.Shown.{made-shows}
+use Rattle.core_expr.proofs.Proved.{made_shows}
 use Rattle.core_expr.proofs.theorems.made_shows.Goals as goal
 
 pub returns : goal.returns
-returns c = made-shows
+returns c = made_shows
