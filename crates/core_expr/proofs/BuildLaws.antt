@@ -17,6 +17,7 @@ use Rattle.core_expr.specs.Flat.{row, rows_at, rows_of, all_rows}
 use Rattle.core_expr.specs.Spans.{spans_of, nodes_in, spans_in, rows_in, rows_under}
 use Rattle.core_expr.proofs.SpanLaws.{spans-subtrees, nodes-subtrees, spans_in-append, length-rows_at}
 use Rattle.core_expr.specs.Rows.{raised}
+use Rattle.core_expr.specs.Coding.{front-push, back-push}
 use Rattle.core_expr.proofs.FlatLaws.{raised-rows_at}
 
 pub list_of-parts_of : (ts : List Tree) → list_of (parts_of ts) ≡ ts
@@ -31,16 +32,6 @@ pub front-back : (ts : List Tree) → 0 < length ts → front ts ++ back ts ∷ 
 front-back [] h = absurd (omega arith)
 front-back (t ∷ []) h = refl
 front-back (t ∷ u ∷ ts) h = ap (λ us. t ∷ us) (front-back (u ∷ ts) (omega arith))
-
-pub front-push : (ts : List Tree) (t : Tree) → front (ts ++ t ∷ []) ≡ ts
-front-push [] t = refl
-front-push (u ∷ []) t = refl
-front-push (u ∷ v ∷ ts) t = ap (λ us. u ∷ us) (front-push (v ∷ ts) t)
-
-pub back-push : (ts : List Tree) (t : Tree) → back (ts ++ t ∷ []) ≡ t
-back-push [] t = refl
-back-push (u ∷ []) t = refl
-back-push (u ∷ v ∷ ts) t = back-push (v ∷ ts) t
 
 all_rows-parts_of : (ts : List Tree) → all_rows 0 (parts_of ts) ≡ rows_in ts
 all_rows-parts_of [] = refl

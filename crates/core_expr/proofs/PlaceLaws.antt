@@ -14,8 +14,8 @@ use Rattle.core_expr.specs.Heads.{table_numbers, list_of, subtrees}
 use Rattle.core_expr.specs.Flat.{row, rows_at, rows_of, all_rows, complete, build, top, tree_of, row_at}
 use Rattle.core_expr.specs.Spans.{spans_of, all_spans, nodes_in, spans_in, back_over}
 use Rattle.core_expr.specs.Places.{subtree, kind_of, root_numbers, RootAt, part_index}
-use Rattle.core_expr.specs.Coding.{build-rows_at}
-use Rattle.core_expr.proofs.SpanLaws.{length-spans_of, length-all_spans, length-rows_at, length-all_rows, length-list_of, nodes-subtrees, spans-subtrees, spans_in-append, nodes_in-append, nodes_in-list_of, length-spans_in, over_trees}
+use Rattle.core_expr.specs.Coding.{build-rows_at, length-list_of}
+use Rattle.core_expr.proofs.SpanLaws.{length-spans_of, length-all_spans, length-rows_at, length-all_rows, nodes-subtrees, spans-subtrees, spans_in-append, nodes_in-append, nodes_in-list_of, length-spans_in, over_trees}
 
 -- the node i of these nodes, with these spans, is the root of a tree whose nodes and spans stand together
 pub record Place (rs : List Row) (ss : List ℕ) (i : ℕ) : Type 0 where

@@ -16,9 +16,8 @@ use Rattle.core_expr.specs.Terms.{head_code, binder_code}
 use Rattle.core_expr.specs.Heads.{kind_table, kind_at, kind_for, kind_number, kind_symbol, kind_fits, plain_fits, is_head, is_empty, fits, table_numbers, binder_arity, parts_of, list_of, subtrees, make_kind, make, is_well_formed, are_well_formed}
 use Rattle.core_expr.specs.Places.{kind_of, root_numbers}
 use Rattle.core_expr.specs.Laws.{Shows}
-use Rattle.core_expr.specs.Coding.{kept-table}
-use Rattle.core_expr.proofs.SpanLaws.{length-list_of}
-use Rattle.core_expr.proofs.BuildLaws.{size-parts_of, table-kept, subtrees-make, formed-make, front-push, back-push, no_numbers, one_number}
+use Rattle.core_expr.specs.Coding.{kept-table, parts_of-list_of, length-list_of, front-push, back-push}
+use Rattle.core_expr.proofs.BuildLaws.{size-parts_of, table-kept, subtrees-make, formed-make, no_numbers, one_number}
 
 pub kind_of-make : (k : RowKind) (ns : List ℕ) (ts : List Tree) → kind_of (make_kind k ns ts) ≡ k
 kind_of-make Bound ns ts = refl
@@ -114,10 +113,6 @@ kind_back Bound = bound_kind
 kind_back (Symbol f) = refl
 kind_back (Plain h) = head_kind h
 kind_back (Binding b) = binder_kind b
-
-parts_of-list_of : (ps : Parts) → parts_of (list_of ps) ≡ ps
-parts_of-list_of end = refl
-parts_of-list_of (part e ps) = ap (part e) (parts_of-list_of ps)
 
 pub kind_makes : (t : Tree) → make_kind (kind_of t) (root_numbers t) (subtrees t) ≡ t
 kind_makes (bound i) = refl

@@ -11,6 +11,7 @@ use Rattle.core_expr.specs.Tree.Parts.{end, part}
 use Rattle.core_expr.specs.Terms.{nodes, nodes_of}
 use Rattle.core_expr.specs.Heads.{table_numbers, list_of, subtrees}
 use Rattle.core_expr.specs.Flat.{row, rows_at, rows_of, all_rows}
+use Rattle.core_expr.specs.Coding.{length-list_of}
 use Rattle.core_expr.specs.Spans.{spans_of, all_spans, nodes_in, spans_in, back_over, spans_from}
 
 mutual
@@ -59,10 +60,6 @@ nodes_in-list_of (part e ps) = ap (λ n. nodes e + n) (nodes_in-list_of ps)
 spans_in-list_of : (ps : Parts) → spans_in (list_of ps) ≡ all_spans ps
 spans_in-list_of end = refl
 spans_in-list_of (part e ps) = ap (λ l. spans_of e ++ l) (spans_in-list_of ps)
-
-pub length-list_of : (ps : Parts) → length (list_of ps) ≡ size ps
-length-list_of end = refl
-length-list_of (part e ps) = ap suc (length-list_of ps)
 
 pub length-spans_in : (ts : List Tree) → length (spans_in ts) ≡ nodes_in ts
 length-spans_in [] = refl

@@ -1,6 +1,6 @@
 -- A tree is stored as its nodes.
-use Rattle.std.specs.Prelude.{◌≡◌, ℕ, suc, ◌+◌, List, [], ◌∷◌, ◌++◌}
-use Rattle.std.proofs.Common.{refl, ap, sym, ◌∙◌, arith, append_assoc, append-nil, zero-add, add-zero}
+use Rattle.std.specs.Prelude.{◌≡◌, ℕ, suc, ◌+◌, List, [], ◌∷◌, ◌++◌, length}
+use Rattle.std.proofs.Common.{refl, ap, sym, ◌∙◌, arith, append_assoc, append-nil, zero-add}
 use Rattle.std.specs.Coded.{Coded, code_by, coded_list}
 use Rattle.core_expr.specs.declared.head.Head.{Head}
 use Rattle.core_expr.specs.declared.head.Head.TheVariants.{True, False, Num, Str, Boolean, Not, And, Or, Imp, Iff, Eq, In, Subseteq, Enum, Cup, Cap, Diff, Power, Union, FunSet, Dom, Apply, Except, Tuple, If, Temporal}
@@ -10,63 +10,70 @@ use Rattle.core_expr.specs.declared.row.RowKind.TheVariants.{Symbol, Plain, Bind
 use Rattle.core_expr.specs.Tree.{Tree, Parts, size}
 use Rattle.core_expr.specs.Tree.Tree.{bound, app, node, bind}
 use Rattle.core_expr.specs.Tree.Parts.{end, part}
-use Rattle.core_expr.specs.Heads.{kept_numbers, table_numbers, parts_of, front, back}
+use Rattle.core_expr.specs.Heads.{kept_numbers, table_numbers, parts_of, list_of, front, back}
 use Rattle.core_expr.specs.Flat.{row, rows_at, rows_of, all_rows, gather, rest, build, top, tree_of}
 
--- the parts on the stack, the last uppermost
-abbrev pub stacked : Parts → List Tree → List Tree
-stacked end st = st
-stacked (part e ps) st = stacked ps (e ∷ st)
+-- the trees on the stack, the last uppermost
+abbrev pub onto : List Tree → List Tree → List Tree
+onto [] st = st
+onto (t ∷ ts) st = onto ts (t ∷ st)
 
--- the parts before ts
-abbrev pub joined : Parts → List Tree → List Tree
-joined end ts = ts
-joined (part e ps) ts = e ∷ joined ps ts
+pub gather-onto : (ts us st : List Tree) (n : ℕ) → gather (length ts + n) (onto ts st) us ≡ gather n st (ts ++ us)
+gather-onto [] us st n = rw zero-add
+gather-onto (t ∷ ts) us st n = let q : suc (length ts) + n ≡ length ts + suc n = omega arith in rw q (gather-onto ts us (t ∷ st) (suc n))
 
-gather_stacked : (ps : Parts) (ts : List Tree) (n : ℕ) (st : List Tree) → gather (size ps + n) (stacked ps st) ts ≡ gather n st (joined ps ts)
-gather_stacked end ts n st = rw zero-add
-gather_stacked (part e ps) ts n st = let q : suc (size ps) + n ≡ size ps + suc n = omega arith in rw q (gather_stacked ps ts (suc n) (e ∷ st))
+pub rest-onto : (ts st : List Tree) (n : ℕ) → rest (length ts + n) (onto ts st) ≡ rest n st
+rest-onto [] st n = rw zero-add
+rest-onto (t ∷ ts) st n = let q : suc (length ts) + n ≡ length ts + suc n = omega arith in rw q (rest-onto ts (t ∷ st) (suc n))
 
-rest_stacked : (ps : Parts) (n : ℕ) (st : List Tree) → rest (size ps + n) (stacked ps st) ≡ rest n st
-rest_stacked end n st = rw zero-add
-rest_stacked (part e ps) n st = let q : suc (size ps) + n ≡ size ps + suc n = omega arith in rw q (rest_stacked ps (suc n) (e ∷ st))
+-- where as many are asked, they are all gathered
+pub gather-all : (n : ℕ) (ts us st : List Tree) → n ≡ length ts → gather n (onto ts st) us ≡ ts ++ us
+gather-all n ts us st e = let q : n ≡ length ts + 0 = omega (arith, e) in ap (λ k. gather k (onto ts st) us) q ∙ gather-onto ts us st 0
 
-gather_all : (ps : Parts) (ts st : List Tree) → gather (size ps) (stacked ps st) ts ≡ joined ps ts
-gather_all ps ts st = ap (λ n. gather n (stacked ps st) ts) (sym (add-zero (size ps))) ∙ gather_stacked ps ts 0 st
+pub rest-all : (n : ℕ) (ts st : List Tree) → n ≡ length ts → rest n (onto ts st) ≡ st
+rest-all n ts st e = let q : n ≡ length ts + 0 = omega (arith, e) in ap (λ k. rest k (onto ts st)) q ∙ rest-onto ts st 0
 
-rest_all : (ps : Parts) (st : List Tree) → rest (size ps) (stacked ps st) ≡ st
-rest_all ps st = ap (λ n. rest n (stacked ps st)) (sym (add-zero (size ps))) ∙ rest_stacked ps 0 st
+pub parts_of-list_of : (ps : Parts) → parts_of (list_of ps) ≡ ps
+parts_of-list_of end = refl
+parts_of-list_of (part e ps) = ap (part e) (parts_of-list_of ps)
 
-parts_of-joined : (ps : Parts) → parts_of (joined ps []) ≡ ps
-parts_of-joined end = refl
-parts_of-joined (part e ps) = ap (part e) (parts_of-joined ps)
+pub length-list_of : (ps : Parts) → length (list_of ps) ≡ size ps
+length-list_of end = refl
+length-list_of (part e ps) = ap suc (length-list_of ps)
 
-front-joined : (ps : Parts) (e : Tree) → parts_of (front (joined ps (e ∷ []))) ≡ ps
-front-joined end e = refl
-front-joined (part d end) e = refl
-front-joined (part d (part c ps)) e = ap (part d) (front-joined (part c ps) e)
+pub front-push : (ts : List Tree) (t : Tree) → front (ts ++ t ∷ []) ≡ ts
+front-push [] t = refl
+front-push (u ∷ []) t = refl
+front-push (u ∷ v ∷ ts) t = ap (λ us. u ∷ us) (front-push (v ∷ ts) t)
 
-back-joined : (ps : Parts) (e : Tree) → back (joined ps (e ∷ [])) ≡ e
-back-joined end e = refl
-back-joined (part d end) e = refl
-back-joined (part d (part c ps)) e = back-joined (part c ps) e
+pub back-push : (ts : List Tree) (t : Tree) → back (ts ++ t ∷ []) ≡ t
+back-push [] t = refl
+back-push (u ∷ []) t = refl
+back-push (u ∷ v ∷ ts) t = back-push (v ∷ ts) t
 
 pub kept-table : (h : Head) (ns : List ℕ) (k : ℕ) → kept_numbers h (table_numbers h ns k) ≡ ns
 kept-table h ns k =
     elim h as (λ h. kept_numbers h (table_numbers h ns k) ≡ ns)
     [ True ↦ refl | False ↦ refl | Num ↦ refl | Str ↦ refl | Boolean ↦ refl | Not ↦ refl | And ↦ refl | Or ↦ refl | Imp ↦ refl | Iff ↦ refl | Eq ↦ refl | In ↦ refl | Subseteq ↦ refl | Enum ↦ refl | Cup ↦ refl | Cap ↦ refl | Diff ↦ refl | Power ↦ refl | Union ↦ refl | FunSet ↦ refl | Dom ↦ refl | Apply ↦ refl | Except ↦ refl | Tuple ↦ refl | If ↦ refl | Temporal ↦ refl ]
 
+-- the parts are gathered, and stand no longer on the stack
+gathered : (ps : Parts) (us st : List Tree) → gather (size ps) (onto (list_of ps) st) us ≡ list_of ps ++ us
+gathered ps us st = gather-all (size ps) (list_of ps) us st (sym (length-list_of ps))
+
+left : (ps : Parts) (st : List Tree) → rest (size ps) (onto (list_of ps) st) ≡ st
+left ps st = rest-all (size ps) (list_of ps) st (sym (length-list_of ps))
+
 mutual
   pub build-rows_at : (d : ℕ) (t : Tree) (qs : List Row) (st : List Tree) → build (rows_at d t ++ qs) st ≡ build qs (t ∷ st)
   build-rows_at d (bound i) qs st = refl
   build-rows_at d (app f ps) qs st =
-      rw (append_assoc, build-all_rows d ps (row (Symbol f) [] (size ps) d ∷ qs) st, gather_all ps [] st, rest_all ps st, parts_of-joined ps)
+      rw (append_assoc, build-all_rows d ps (row (Symbol f) [] (size ps) d ∷ qs) st, gathered ps [] st, left ps st, append-nil, parts_of-list_of ps)
   build-rows_at d (node h ns ps) qs st =
-      rw (append_assoc, build-all_rows d ps (row (Plain h) (table_numbers h ns (size ps)) (size ps) d ∷ qs) st, gather_all ps [] st, rest_all ps st, parts_of-joined ps, kept-table h ns (size ps))
+      rw (append_assoc, build-all_rows d ps (row (Plain h) (table_numbers h ns (size ps)) (size ps) d ∷ qs) st, gathered ps [] st, left ps st, append-nil, parts_of-list_of ps, kept-table h ns (size ps))
   build-rows_at d (bind b ps e) qs st =
-      rw (append_assoc, build-all_rows d ps ((rows_at (suc d) e ++ row (Binding b) [] (suc (size ps)) d ∷ []) ++ qs) st, append_assoc, build-rows_at (suc d) e (row (Binding b) [] (suc (size ps)) d ∷ qs) (stacked ps st), gather_all ps (e ∷ []) st, rest_all ps st, front-joined ps e, back-joined ps e)
+      rw (append_assoc, build-all_rows d ps ((rows_at (suc d) e ++ row (Binding b) [] (suc (size ps)) d ∷ []) ++ qs) st, append_assoc, build-rows_at (suc d) e (row (Binding b) [] (suc (size ps)) d ∷ qs) (onto (list_of ps) st), gathered ps (e ∷ []) st, left ps st, front-push (list_of ps) e, back-push (list_of ps) e, parts_of-list_of ps)
 
-  pub build-all_rows : (d : ℕ) (ps : Parts) (qs : List Row) (st : List Tree) → build (all_rows d ps ++ qs) st ≡ build qs (stacked ps st)
+  pub build-all_rows : (d : ℕ) (ps : Parts) (qs : List Row) (st : List Tree) → build (all_rows d ps ++ qs) st ≡ build qs (onto (list_of ps) st)
   build-all_rows d end qs st = refl
   build-all_rows d (part e ps) qs st = rw (append_assoc, build-rows_at d e (all_rows d ps ++ qs) st) (build-all_rows d ps qs (e ∷ st))
 

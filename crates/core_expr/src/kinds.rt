@@ -64,7 +64,7 @@ fn kind_at(head: u64) -> RowKind
 }
 
 /// What kind of node has this head number, or this symbol.
-pub(crate) fn kind_for(head: u64, sym: Option<Sym>) -> RowKind
+pub fn kind_for(head: u64, sym: Option<Sym>) -> RowKind
     ensures { result ≡ kind_for head sym }
 {
     match sym {
@@ -122,7 +122,7 @@ fn binder_number(binder: Binder) -> u64
 }
 
 /// The head number of a kind of node.
-pub(crate) fn kind_number(kind: RowKind) -> u64
+pub fn kind_number(kind: RowKind) -> u64
     ensures { result ≡ kind_number kind }
 {
     match kind {

@@ -30,6 +30,7 @@ pub mod theorems;
 pub use canon::Canon;
 pub use expr::Expr;
 pub use head::{Binder, Head, Sym, SymKind};
+pub use kinds::{kind_for, kind_number};
 pub use memory::Memory;
 pub use row::{Row, RowKind};
 pub use text::Text;

@@ -1,7 +1,7 @@
 use Rattle.std.proofs.Common.{[], ◌∷◌, ◌++◌, ap, ◌∙◌}
 use Rattle.core_expr.specs.Tree.Tree.{bind}
 use Rattle.core_expr.specs.Heads.{parts_of, front, back}
-use Rattle.core_expr.proofs.BuildLaws.{front-push, back-push}
+use Rattle.core_expr.specs.Coding.{front-push, back-push}
 use Rattle.core_expr.proofs.FlatLaws.{ok_same}
 use Rattle.core_expr.proofs.expr.Expr.binding.Goals as goal
 
