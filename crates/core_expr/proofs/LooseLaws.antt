@@ -1,5 +1,5 @@
 -- A scope is a bound on the loose variables.
-use Rattle.std.proofs.Common.{ℕ, suc, ◌<◌, ◌≤◌, pred, max, arith}
+use Rattle.std.proofs.Common.{ℕ, suc, ◌≤◌, arith}
 use Rattle.core_expr.specs.Tree.{Tree, Parts}
 use Rattle.core_expr.specs.Tree.Tree.{bound, app, node, bind}
 use Rattle.core_expr.specs.Tree.Parts.{end, part}

@@ -1,8 +1,7 @@
 -- A node of a table of shared nodes shows its head, its numbers and its parts, and a node of a canonical expression is one.
-use Rattle.std.proofs.Common.{◌≡◌, ℕ, suc, ◌<◌, Bool, true, false, ◌&&◌, cond, nat_eq, nat_lt, None, List, [], ◌∷◌, ◌++◌, length, refl, ap, sym, ◌∙◌, arith}
+use Rattle.std.proofs.Common.{◌≡◌, ℕ, suc, ◌<◌, Bool, true, false, cond, nat_eq, nat_lt, None, List, [], ◌∷◌, length, refl, ap, sym, ◌∙◌, arith}
 use Rattle.std.proofs.lemmas.Bool.Decides.{nat_tests}
 use Rattle.std.proofs.lemmas.Bool.{and_parts, and_from, eqb-true, agree_below_at}
-use Rattle.core_expr.specs.declared.head.Sym.{Sym}
 use Rattle.core_expr.specs.declared.head.SymKind.{SymKind}
 use Rattle.core_expr.specs.declared.head.SymKind.TheVariants.{Constant, State, Primed, Defined, DefinedPrimed, Canon}
 use Rattle.core_expr.specs.declared.head.Head.{Head}
@@ -11,9 +10,8 @@ use Rattle.core_expr.specs.declared.head.Head.TheVariants.{True, False, Num, Str
 use Rattle.core_expr.specs.declared.head.Binder.TheVariants.{All, Ex, Filter, Image, Fun, Choose}
 use Rattle.core_expr.specs.declared.row.RowKind.{RowKind}
 use Rattle.core_expr.specs.declared.row.RowKind.TheVariants.{Bound, Symbol, Plain, Binding}
-use Rattle.core_expr.specs.Tree.{Tree, Parts}
+use Rattle.core_expr.specs.Tree.{Tree}
 use Rattle.core_expr.specs.Tree.Tree.{bound, app, node, bind}
-use Rattle.core_expr.specs.Tree.Parts.{end, part}
 use Rattle.core_expr.specs.Terms.{head_code, binder_code}
 use Rattle.core_expr.specs.Heads.{kind_table, kind_at, kind_for, kind_number, kind_symbol, kind_fits, is_head, is_empty, first, after_first, parts_of, subtrees, front, back, make_kind, is_canon, is_lasting, is_canonical_kind, is_canonical, are_canonical, is_well_formed, are_well_formed, HasBody}
 use Rattle.core_expr.specs.Places.{kind_of, root_numbers}

@@ -5,7 +5,6 @@ use Rattle.std.proofs.lemmas.Grind.{take_at_read}
 use Rattle.std.proofs.lemmas.Bool.Decides.{nat_tests}
 use Rattle.std.proofs.lemmas.Bool.{and_parts, and_from, cases_lt, eqb-true}
 use Rattle.core_expr.specs.declared.head.Sym.{Sym}
-use Rattle.core_expr.specs.declared.head.Head.TheVariants.{True}
 use Rattle.core_expr.specs.declared.row.Row.{Row}
 use Rattle.core_expr.specs.declared.row.RowKind.{RowKind}
 use Rattle.core_expr.specs.declared.row.RowKind.TheVariants.{Bound, Symbol, Plain, Binding}
@@ -14,12 +13,11 @@ use Rattle.core_expr.specs.Tree.Tree.{bound, app, node, bind}
 use Rattle.core_expr.specs.Tree.Parts.{end, part}
 use Rattle.core_expr.specs.Put.{shift, shifts, argument, put, puts, apply_body, sub, subs}
 use Rattle.core_expr.specs.Terms.{same_sym}
-use Rattle.core_expr.specs.Heads.{table_numbers, first, is_empty, is_only, is_well_formed, are_well_formed}
+use Rattle.core_expr.specs.Heads.{table_numbers, is_empty, is_only, is_well_formed, are_well_formed}
 use Rattle.core_expr.specs.Flat.{row, rows_at, rows_of, all_rows, tree_of}
-use Rattle.core_expr.specs.Rows.{raised_row, is_loose_row}
 use Rattle.core_expr.specs.Coding.{tree_of-rows_of}
-use Rattle.core_expr.specs.Rename.{named, all_formed, body_for, is_free_row, lifted_row, lifted, begin, between, argument_rows, filled_row, filled, is_variable, root_symbol, applied_symbol, put_nodes, next_nodes, next_starts, renamed}
-use Rattle.core_expr.proofs.Laws.{size-shifts, size-puts, size-subs}
+use Rattle.core_expr.specs.Rename.{named, all_formed, begin, between, argument_rows, filled_row, filled, is_variable, root_symbol, applied_symbol, put_nodes, next_nodes, next_starts, renamed}
+use Rattle.core_expr.proofs.Laws.{size-puts, size-subs}
 use Rattle.core_expr.proofs.Formed.{formed-put}
 use Rattle.core_expr.proofs.LiftLaws.{lifted-rows_at}
 

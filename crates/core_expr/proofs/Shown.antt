@@ -11,7 +11,6 @@ use Rattle.core_expr.specs.declared.row.RowKind.{RowKind}
 use Rattle.core_expr.specs.declared.row.RowKind.TheVariants.{Bound, Symbol, Plain, Binding}
 use Rattle.core_expr.specs.Tree.{Tree, Parts, size}
 use Rattle.core_expr.specs.Tree.Tree.{bound, app, node, bind}
-use Rattle.core_expr.specs.Tree.Parts.{end, part}
 use Rattle.core_expr.specs.Terms.{head_code, binder_code}
 use Rattle.core_expr.specs.Heads.{kind_table, kind_at, kind_for, kind_number, kind_symbol, kind_fits, plain_fits, is_head, is_empty, fits, table_numbers, binder_arity, parts_of, list_of, subtrees, make_kind, make, is_well_formed, are_well_formed}
 use Rattle.core_expr.specs.Places.{kind_of, root_numbers}

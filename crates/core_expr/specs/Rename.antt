@@ -5,7 +5,7 @@ use Rattle.core_expr.specs.declared.head.Sym.{Sym}
 use Rattle.core_expr.specs.declared.head.Head.TheVariants.{True}
 use Rattle.core_expr.specs.declared.row.Row.{Row}
 use Rattle.core_expr.specs.declared.row.RowKind.{RowKind}
-use Rattle.core_expr.specs.declared.row.RowKind.TheVariants.{Bound, Symbol, Plain, Binding}
+use Rattle.core_expr.specs.declared.row.RowKind.TheVariants.{Bound, Symbol, Plain}
 use Rattle.core_expr.specs.Tree.{Tree}
 use Rattle.core_expr.specs.Terms.{same_sym}
 use Rattle.core_expr.specs.Heads.{first, is_empty, is_only, is_well_formed}

@@ -1,3 +1,4 @@
+//! Canonical forms, as keys of maps.
 ghost use Rattle.core_expr.specs.Equality.{same_canon, canon_fed};
 ghost use Rattle.core_expr.specs.Keys.{canon_laws, canon_equal, canon_alike};
 

@@ -1,3 +1,4 @@
+//! Equality and hashes of expressions.
 ghost use Rattle.std.specs.Prelude.{◌≡◌};
 ghost use Rattle.std.specs.List.{fold, flat_map};
 ghost use Rattle.core_expr.specs.Terms.{same};

@@ -1,3 +1,4 @@
+//! The nodes of several expressions, one after another.
 ghost use Rattle.std.specs.Prelude.{◌≡◌, [], ◌++◌, IfOk};
 ghost use Rattle.core_expr.specs.Rows.{raised};
 

@@ -1,3 +1,4 @@
+//! The heads of expressions, and symbols.
 /// What a symbol stands for.
 #[derive(Clone, Copy, Debug, PartialEq, Eq, Hash)]
 pub enum SymKind {

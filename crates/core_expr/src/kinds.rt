@@ -1,3 +1,4 @@
+//! The table of heads: kinds of nodes and their numbers.
 ghost use Rattle.std.specs.Prelude.{◌≡◌, slice_index_or};
 ghost use Rattle.core_expr.specs.declared.row.RowKind.TheVariants.{Plain};
 ghost use Rattle.core_expr.specs.declared.head.Head.TheVariants.{Temporal};

@@ -1,3 +1,4 @@
+//! One node of an expression.
 use crate::head::{Binder, Head, Sym};
 use sqlite_items::Items;
 

@@ -1,3 +1,4 @@
+//! What putting in, copying and the test of scopes do to nodes.
 ghost use Rattle.std.specs.Prelude.{◌≡◌, ◌↔◌, ◌++◌, ◌+◌, IsTrue, IfOk, OnOk};
 ghost use Rattle.core_expr.specs.Heads.{first};
 ghost use Rattle.core_expr.specs.Rows.{raised, is_loose_row, replace_row, replaced, row_scoped, rows_scoped};

@@ -1,3 +1,4 @@
+//! How many nodes the subtree of each node has.
 ghost use Rattle.std.specs.Prelude.{◌≡◌, ◌-◌, ◌≤◌, [], length, slice_index_or, IfOk};
 ghost use Rattle.core_expr.specs.Spans.{back_over, spans_from};
 

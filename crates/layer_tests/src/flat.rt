@@ -1,3 +1,4 @@
+//! Tests of proofs as flat lists.
 ghost use Rattle.std.specs.Prelude.{◌≡◌, [], IfOk};
 ghost use Rattle.seq_calculus.specs.Example.{two_steps};
 

@@ -1,8 +1,6 @@
-use crate::nodes::{
-    apply, boolean, bound, choose, constant, equal, exists, falsehood, iff, implies, member, not,
-    numeral, or, truth,
-};
-use core_expr::{Expr, Memory};
+//! Tests of the instances of schemas.
+use crate::nodes::{apply, choose, constant};
+use core_expr::{Binder, Expr, Head, Memory};
 use seq_calculus::instance_of;
 use std::alloc::Global;
 use std::test::Fail;
@@ -57,17 +55,17 @@ fn gives(alloc: Global, schema: u64, param: Expr, want: &Expr) -> Result<bool, M
 
 /// `c0 \in BOOLEAN <=> c0 = TRUE \/ c0 = FALSE`
 fn about_boolean(alloc: Global) -> Result<Expr, Memory> {
-    let left = member(alloc, constant(alloc, 0)?, boolean(alloc)?)?;
-    let first = equal(alloc, constant(alloc, 0)?, truth(alloc)?)?;
-    let second = equal(alloc, constant(alloc, 0)?, falsehood(alloc)?)?;
-    iff(alloc, left, or(alloc, first, second)?)
+    let left = Expr::binary(alloc, Head::In, constant(alloc, 0)?, Expr::leaf(alloc, Head::Boolean)?)?;
+    let first = Expr::binary(alloc, Head::Eq, constant(alloc, 0)?, Expr::leaf(alloc, Head::True)?)?;
+    let second = Expr::binary(alloc, Head::Eq, constant(alloc, 0)?, Expr::leaf(alloc, Head::False)?)?;
+    Expr::binary(alloc, Head::Iff, left, Expr::binary(alloc, Head::Or, first, second)?)
 }
 
 /// `(\E x : 1(x)) => 1(CHOOSE x : 1(x))`
 fn about_choice(alloc: Global) -> Result<Expr, Memory> {
-    let left = exists(alloc, apply(alloc, 1, bound(alloc, 0)?)?)?;
-    let value = choose(alloc, apply(alloc, 1, bound(alloc, 0)?)?)?;
-    implies(alloc, left, apply(alloc, 1, value)?)
+    let left = Expr::quantified(alloc, Binder::Ex, apply(alloc, 1, Expr::bound(alloc, 0)?)?)?;
+    let value = choose(alloc, apply(alloc, 1, Expr::bound(alloc, 0)?)?)?;
+    Expr::binary(alloc, Head::Imp, left, apply(alloc, 1, value)?)
 }
 
 #[test]
@@ -77,7 +75,7 @@ fn what_is_in_boolean(rt: HostRuntime) -> Result<(), Fail> {
     let param = constant(alloc, 0)?;
     assert!(rt; gives(alloc, 9, param, &want)?);
     // the parameter is closed, or there is no instance
-    let open = vec![in alloc; bound(alloc, 0)?]?;
+    let open = vec![in alloc; Expr::bound(alloc, 0)?]?;
     assert_eq!(rt; size(alloc, 9, 0, &open)?, 0);
     Ok(())
 }
@@ -87,7 +85,7 @@ fn what_is_chosen(rt: HostRuntime) -> Result<(), Fail> {
     let alloc = rt.alloc();
     let want = about_choice(alloc)?;
     // the parameter may have a loose variable
-    let open = apply(alloc, 1, bound(alloc, 0)?)?;
+    let open = apply(alloc, 1, Expr::bound(alloc, 0)?)?;
     assert!(rt; gives(alloc, 12, open, &want)?);
     Ok(())
 }
@@ -95,10 +93,10 @@ fn what_is_chosen(rt: HostRuntime) -> Result<(), Fail> {
 #[test]
 fn literals_are_told_apart(rt: HostRuntime) -> Result<(), Fail> {
     let alloc = rt.alloc();
-    let different = vec![in alloc; numeral(alloc, 1)?, numeral(alloc, 2)?]?;
-    let want = not(alloc, equal(alloc, numeral(alloc, 1)?, numeral(alloc, 2)?)?)?;
+    let different = vec![in alloc; Expr::numeral(alloc, 0, 1)?, Expr::numeral(alloc, 0, 2)?]?;
+    let want = Expr::unary(alloc, Head::Not, Expr::binary(alloc, Head::Eq, Expr::numeral(alloc, 0, 1)?, Expr::numeral(alloc, 0, 2)?)?)?;
     assert!(rt; instance_of(alloc, 22, 0, &different)? == Some(want));
-    let equal = vec![in alloc; numeral(alloc, 1)?, numeral(alloc, 1)?]?;
+    let equal = vec![in alloc; Expr::numeral(alloc, 0, 1)?, Expr::numeral(alloc, 0, 1)?]?;
     assert!(rt; instance_of(alloc, 22, 0, &equal)?.is_none());
     Ok(())
 }

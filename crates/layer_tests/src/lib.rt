@@ -15,3 +15,5 @@ mod instances;
 mod nodes;
 #[cfg(test)]
 mod renaming;
+#[cfg(test)]
+mod trees;

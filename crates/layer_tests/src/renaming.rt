@@ -1,4 +1,5 @@
-use crate::nodes::{apply, apply_two, bound, choose, constant, symbol};
+//! Tests of substitution for symbols.
+use crate::nodes::{apply, apply_two, choose, constant, symbol};
 use core_expr::{Expr, Memory, Sym};
 use std::alloc::Global;
 use std::test::Fail;
@@ -12,13 +13,13 @@ fn gives(alloc: Global, e: &Expr, sym: Sym, body: Expr, want: &Expr) -> Result<b
 
 /// `CHOOSE y : 9(y, x)`, where x is the bound variable 0 outside.
 fn chosen(alloc: Global) -> Result<Expr, Memory> {
-    let body = apply_two(alloc, 9, bound(alloc, 0)?, bound(alloc, 1)?)?;
+    let body = apply_two(alloc, 9, Expr::bound(alloc, 0)?, Expr::bound(alloc, 1)?)?;
     choose(alloc, body)
 }
 
 /// `CHOOSE z : 1(z)`
 fn applied(alloc: Global) -> Result<Expr, Memory> {
-    let body = apply(alloc, 1, bound(alloc, 0)?)?;
+    let body = apply(alloc, 1, Expr::bound(alloc, 0)?)?;
     choose(alloc, body)
 }
 
@@ -46,7 +47,7 @@ fn an_argument_may_be_dropped(rt: HostRuntime) -> Result<(), Fail> {
     // x for 2(x, y)
     let e = pair(alloc)?;
     let want = constant(alloc, 6)?;
-    let body = bound(alloc, 1)?;
+    let body = Expr::bound(alloc, 1)?;
     assert!(rt; gives(alloc, &e, symbol(2, 2), body, &want)?);
     // the symbol 2 of arity 1 is another
     let other = constant(alloc, 8)?;
@@ -75,7 +76,7 @@ fn an_argument_may_be_doubled(rt: HostRuntime) -> Result<(), Fail> {
     // 9(x, x) for 1(x), in 1(1(c6))
     let e = nested(alloc, 1, 2)?;
     let want = twice(alloc, twice(alloc, constant(alloc, 6)?)?)?;
-    let body = twice(alloc, bound(alloc, 0)?)?;
+    let body = twice(alloc, Expr::bound(alloc, 0)?)?;
     assert!(rt; gives(alloc, &e, symbol(1, 1), body, &want)?);
     Ok(())
 }
@@ -85,7 +86,7 @@ fn depth_needs_no_stack(rt: HostRuntime) -> Result<(), Fail> {
     let alloc = rt.alloc();
     let e = nested(alloc, 4, 100_000)?;
     let want = nested(alloc, 5, 100_000)?;
-    let body = apply(alloc, 5, bound(alloc, 0)?)?;
+    let body = apply(alloc, 5, Expr::bound(alloc, 0)?)?;
     assert!(rt; gives(alloc, &e, symbol(4, 1), body, &want)?);
     Ok(())
 }

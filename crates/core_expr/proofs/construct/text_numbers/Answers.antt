@@ -1,4 +1,4 @@
-use Rattle.std.proofs.Common.{◌≡◌, ◌<◌, get_or, length, arith, rules}
+use Rattle.std.proofs.Common.{◌≡◌, ◌<◌, get_or, length, rules}
 use Rattle.core_expr.proofs.BuildLaws.{text_step}
 use Rattle.core_expr.proofs.construct.text_numbers.Goals as goal
 

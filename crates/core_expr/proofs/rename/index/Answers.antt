@@ -1,5 +1,5 @@
 use Rattle.std.proofs.Common.{◌-◌, ◌+◌, length, arith}
-use Rattle.core_expr.proofs.IndexLaws.{index_step, index_start, index_end}
+use Rattle.core_expr.proofs.IndexLaws.{index_step, index_start}
 use Rattle.core_expr.proofs.rename.index.Goals as goal
 
 pub loop-done-init : goal.loop-done-init

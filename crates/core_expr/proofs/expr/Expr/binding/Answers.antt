@@ -1,4 +1,4 @@
-use Rattle.std.proofs.Common.{[], ◌∷◌, ◌++◌, ap, ◌∙◌}
+use Rattle.std.proofs.Common.{◌∙◌}
 use Rattle.core_expr.specs.Tree.Tree.{bind}
 use Rattle.core_expr.specs.Heads.{parts_of, front, back}
 use Rattle.core_expr.specs.Coding.{front-push, back-push}

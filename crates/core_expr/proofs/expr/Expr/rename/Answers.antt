@@ -1,4 +1,4 @@
-use Rattle.std.proofs.Common.{◌≡◌, sym, ◌∙◌, ap, true}
+use Rattle.std.proofs.Common.{◌≡◌, ◌∙◌, ap, true}
 use Rattle.core_expr.specs.Flat.{rows_of, tree_of}
 use Rattle.core_expr.specs.Heads.{is_well_formed}
 use Rattle.core_expr.specs.Put.{sub}

@@ -1,72 +1,30 @@
-use crate::{Canon, Expr, Memory, Sym, SymKind};
+//! Tests of expressions, of canonical forms and of texts.
+use crate::nodes::{choose, constant};
+use core_expr::{Binder, Canon, Expr, Head, Memory, RowKind, Text};
 use sqlite_items::Items;
 use std::alloc::Global;
 use std::hash::{DefaultHasher, Hash, Hasher};
 use std::test::Fail;
 
-/// The bound variable with this index.
-#[tactic(auto, unfolding(crate::specs::Heads::kind_at, crate::specs::Heads::kind_table))]
-fn bound(alloc: Global, index: u64) -> Result<Expr, Memory> {
-    Expr::build(alloc, 5, None, &[index], Vec::new(alloc))
-}
-
-/// A constant.
-#[tactic(auto, unfolding(crate::specs::Heads::kind_at, crate::specs::Heads::kind_table))]
-fn constant(alloc: Global, number: u64) -> Result<Expr, Memory> {
-    let sym = Sym {
-        kind: SymKind::Constant,
-        number,
-        arity: 0,
-    };
-    Expr::build(alloc, 6, Some(sym), &[], Vec::new(alloc))
-}
-
 /// `~a`
-#[tactic(auto, unfolding(crate::specs::Heads::kind_at, crate::specs::Heads::kind_table))]
 fn not(alloc: Global, a: Expr) -> Result<Expr, Memory> {
-    let parts = vec![in alloc; a]?;
-    Expr::build(alloc, 7, None, &[], parts)
-}
-
-/// `a = b`
-#[tactic(auto, unfolding(crate::specs::Heads::kind_at, crate::specs::Heads::kind_table))]
-fn equal(alloc: Global, a: Expr, b: Expr) -> Result<Expr, Memory> {
-    let parts = vec![in alloc; a, b]?;
-    Expr::build(alloc, 14, None, &[], parts)
-}
-
-/// `{x \in set : body}`
-#[tactic(auto, unfolding(crate::specs::Heads::kind_at, crate::specs::Heads::kind_table))]
-fn filter(alloc: Global, set: Expr, body: Expr) -> Result<Expr, Memory> {
-    let parts = vec![in alloc; set, body]?;
-    Expr::build(alloc, 23, None, &[], parts)
-}
-
-/// `CHOOSE x : body`
-#[tactic(auto, unfolding(crate::specs::Heads::kind_at, crate::specs::Heads::kind_table))]
-fn choose(alloc: Global, body: Expr) -> Result<Expr, Memory> {
-    let parts = vec![in alloc; body]?;
-    Expr::build(alloc, 32, None, &[], parts)
-}
-
-/// The set of these two.
-#[tactic(auto, unfolding(crate::specs::Heads::kind_at, crate::specs::Heads::kind_table))]
-fn pair(alloc: Global, a: Expr, b: Expr) -> Result<Expr, Memory> {
-    let parts = vec![in alloc; a, b]?;
-    Expr::build(alloc, 17, None, &[2], parts)
+    Expr::unary(alloc, Head::Not, a)
 }
 
 /// `{x \in {c0, ~c1} : x = c2}`
 fn sample(alloc: Global) -> Result<Expr, Memory> {
+    let first = constant(alloc, 0)?;
     let second = not(alloc, constant(alloc, 1)?)?;
-    let set = pair(alloc, constant(alloc, 0)?, second)?;
-    let body = equal(alloc, bound(alloc, 0)?, constant(alloc, 2)?)?;
-    filter(alloc, set, body)
+    let set = Expr::binary(alloc, Head::Enum, first, second)?;
+    let x = Expr::bound(alloc, 0)?;
+    let body = Expr::binary(alloc, Head::Eq, x, constant(alloc, 2)?)?;
+    Expr::ranged(alloc, Binder::Filter, set, body)
 }
 
 /// `CHOOSE y : y = a`
 fn chosen_as(alloc: Global, a: Expr) -> Result<Expr, Memory> {
-    let body = equal(alloc, bound(alloc, 0)?, a)?;
+    let y = Expr::bound(alloc, 0)?;
+    let body = Expr::binary(alloc, Head::Eq, y, a)?;
     choose(alloc, body)
 }
 
@@ -94,7 +52,7 @@ fn part(e: &Expr, i: u64, k: u64) -> u64 {
 }
 
 #[test]
-fn nodes_are_read_as_built(rt: HostRuntime) -> Result<(), Fail> {
+fn nodes_are_read_as_made(rt: HostRuntime) -> Result<(), Fail> {
     let e = sample(rt.alloc())?;
     let heads = [
         head(&e, 0),
@@ -124,6 +82,36 @@ fn nodes_are_read_as_built(rt: HostRuntime) -> Result<(), Fail> {
     Ok(())
 }
 
+/// What the root is.
+fn root(e: &Expr) -> Option<RowKind> {
+    let nodes = e.length();
+    if nodes > 0 {
+        return Some(e.kind(nodes - 1));
+    }
+    None
+}
+
+/// The second number of the root, where there is one.
+fn second_number(e: &Expr) -> Option<u64> {
+    let nodes = e.length();
+    if nodes > 0 {
+        return e.numbers(nodes - 1).get(1).copied();
+    }
+    None
+}
+
+#[test]
+fn numerals_and_strings_are_made(rt: HostRuntime) -> Result<(), Fail> {
+    let alloc = rt.alloc();
+    let number = Expr::number(alloc, 18446744073709551619)?;
+    assert!(rt; number == Expr::numeral(alloc, 1, 3)?);
+    assert!(rt; root(&number) == Some(RowKind::Plain(Head::Num)));
+    let text = Expr::text(alloc, b"Az")?;
+    assert_eq!(rt; second_number(&text), Some(65));
+    assert!(rt; text != Expr::text(alloc, b"A")?);
+    Ok(())
+}
+
 /// `e` with `t` for its loose variable, where both are fit for that.
 fn put(alloc: Global, e: &Expr, t: &Expr) -> Result<Option<Expr>, Memory> {
     if e.is_scoped(1) && t.is_closed() {
@@ -137,7 +125,7 @@ fn put(alloc: Global, e: &Expr, t: &Expr) -> Result<Option<Expr>, Memory> {
 fn no_binder_captures(rt: HostRuntime) -> Result<(), Fail> {
     let alloc = rt.alloc();
     // CHOOSE y : y = x, with CHOOSE y : y = c for x
-    let body = chosen_as(alloc, bound(alloc, 1)?)?;
+    let body = chosen_as(alloc, Expr::bound(alloc, 1)?)?;
     let t = chosen_as(alloc, constant(alloc, 0)?)?;
     let want = chosen_as(alloc, t.copy(alloc)?)?;
     let got = put(alloc, &body, &t)?;
@@ -146,9 +134,23 @@ fn no_binder_captures(rt: HostRuntime) -> Result<(), Fail> {
     Ok(())
 }
 
+#[test]
+fn only_loose_variables_move(rt: HostRuntime) -> Result<(), Fail> {
+    let alloc = rt.alloc();
+    // CHOOSE y : y = x
+    let e = chosen_as(alloc, Expr::bound(alloc, 1)?)?;
+    let want = chosen_as(alloc, Expr::bound(alloc, 4)?)?;
+    assert!(rt; e.lift(alloc, 3)? == want);
+    // an index of 2^64 - 1 goes up no more
+    let last = Expr::bound(alloc, u64::MAX)?;
+    assert!(rt; last.lift(alloc, 1).is_err());
+    assert!(rt; last.lift(alloc, 0)? == last);
+    Ok(())
+}
+
 /// So many `~` over the bound variable 0.
 fn nots(alloc: Global, count: u64) -> Result<Expr, Memory> {
-    let mut e = bound(alloc, 0)?;
+    let mut e = Expr::bound(alloc, 0)?;
     for _ in 0..count {
         e = not(alloc, e)?;
     }
@@ -179,10 +181,10 @@ fn sequent(alloc: Global, number: u64) -> Result<Canon, Memory> {
     Ok(Canon { facts, goal })
 }
 
-/// What the canonical form feeds a hasher, mixed.
-fn hash(canon: &Canon) -> u64 {
+/// What the value feeds a hasher, mixed.
+fn hash<T: Hash>(value: &T) -> u64 {
     let mut hasher = DefaultHasher::new();
-    canon.hash(&mut hasher);
+    value.hash(&mut hasher);
     hasher.finish()
 }
 
@@ -196,5 +198,19 @@ fn canonical_forms_are_keys(rt: HostRuntime) -> Result<(), Fail> {
     assert!(rt; first != other);
     assert_eq!(rt; hash(&first), hash(&again));
     assert!(rt; hash(&first) != hash(&other));
+    Ok(())
+}
+
+#[test]
+fn texts_are_keys(rt: HostRuntime) -> Result<(), Fail> {
+    let alloc = rt.alloc();
+    let short = Text::of(alloc, b"Op")?;
+    let long = Text::from_vec(Vec::from_slice(alloc, b"Op1")?);
+    let again = Text::of(alloc, b"Op1")?;
+    assert!(rt; short < long);
+    assert!(rt; long == again);
+    assert_eq!(rt; hash(&long), hash(&again));
+    assert!(rt; hash(&short) != hash(&long));
+    assert!(rt; long.into_vec().as_slice() == b"Op1");
     Ok(())
 }
