@@ -1,4 +1,5 @@
-// Cache files of the current folder.
+//! Cache files of the current folder.
+
 ghost use Rattle.std.specs.Prelude.{◌≡◌, ◌≢◌, ◌≤◌, ◌<◌, ◌+◌, ◌++◌, ◌↔◌, List, ℕ, is_some, OnOk, IfOk, IfSome, IsErr, IsNone, IsTrue, codes, length, take};
 ghost use Rattle.std.specs.Io.KnownBytes.{Appends};
 ghost use Rattle.tla_io.specs.Causes.{HasCause, HasCacheCause};
@@ -6,10 +7,10 @@ ghost use Rattle.tla_io.specs.Told.{untold, with_content};
 
 use crate::cache_file::CacheFile;
 use crate::faults::{CacheFault, Failed};
-use crate::front::{Front, read_front};
+use crate::front::{Front, read_path};
 use std::alloc::Global;
 use std::fs;
-use std::io::{ErrorKind, Write};
+use std::io::Write;
 use std::marker::Model;
 use std::rt::Files;
 
@@ -39,11 +40,11 @@ impl<'a, R: Files> FileCache<'a, R> {
     }
 }
 
-// The most bytes of the name of the file beside another.
+/// The most bytes of the name of the file beside another.
 const NAME: usize = 4096;
 
-// Writes the name of the file beside this one to the front of the buffer, and answers its length; None where the buffer
-// is too short for it.
+/// Writes the name of the file beside this one to the front of the buffer, and answers its length; None where the buffer
+/// is too short for it.
 fn write_name(file: &str, buf: &mut [u8]) -> Option<usize>
     ensures long { IsNone result ↔ (length buf.old < length file.now + 4) }
     ensures name { IfSome result (λ n. take n buf.new ≡ file.now ++ codes ".new") }
@@ -58,22 +59,14 @@ fn write_name(file: &str, buf: &mut [u8]) -> Option<usize>
     Some(length + 4)
 }
 
-// Writes all the bytes, unless a write fails or takes none.
+/// Writes all the bytes; whether that went well.
 fn is_written<W: Write>(out: &mut W, bytes: &[u8]) -> bool
     ensures { IsTrue result → Appends (W.contents out.old) (W.contents out.new) bytes.now }
 {
-    let mut done = 0;
-    while done < bytes.len() {
-        match out.write(&bytes[done..]) {
-            Ok(0) => return false,
-            Ok(count) => done += count,
-            Err(_) => return false,
-        }
-    }
-    true
+    out.write_all(bytes).is_ok()
 }
 
-// Puts the bytes into the file by way of the one beside it.
+/// Puts the bytes into the file by way of the one beside it.
 fn is_replaced<R: Files>(rt: &R, file: &str, bytes: &[u8]) -> bool
     ensures { IsTrue result → length file.now + 4 ≤ 4096 }
 {
@@ -99,17 +92,15 @@ impl<'a, R: Files> CacheFile for FileCache<'a, R> {
         ensures cause { HasCacheCause self.old self.new result }
         ensures within { IfOk result (λ bytes. length bytes.items ≤ at_most) }
     {
-        match fs::open(self.rt, file) {
-            Ok(mut opened) => match read_front(alloc, &mut opened, at_most) {
-                Front::Bytes(bytes) => return Ok(bytes),
-                Front::Memory => return Err(CacheFault::Memory),
-                Front::Failed => {}
-            },
-            Err(error) if error.kind() == ErrorKind::NotFound => return Ok(Vec::new(alloc)),
-            Err(_) => {}
+        match read_path(alloc, self.rt, file, at_most) {
+            Front::Bytes(bytes) => Ok(bytes),
+            Front::Missing => Ok(Vec::new(alloc)),
+            Front::Memory => Err(CacheFault::Memory),
+            Front::Failed => {
+                self.faults = self.faults.saturating_add(1);
+                Err(CacheFault::Failed)
+            }
         }
-        self.faults = self.faults.saturating_add(1);
-        Err(CacheFault::Failed)
     }
 
     fn replace(&mut self, file: &str, bytes: Vec<u8>) -> Result<(), Failed>

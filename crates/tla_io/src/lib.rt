@@ -9,8 +9,9 @@
 //! - `write_whole` ends, and its sink took all the bytes, or it fails and its sink took a part of them from the front.
 //!
 //! `MemShelf`, `MemCache` and `MemSink` are devices in memory, which tell what they hold and fail exactly at the calls
-//! that they are given. `FileShelf`, `FileCache` and `StdSink` reach the real files of the current folder and the
-//! standard output. They tell nothing of content, and keep a count that every error raises.
+//! that they are given. `FileShelf`, `FileCache` and `StdSink` reach real files and the standard output, and keep a count
+//! that every error raises. What they do is proved as far as what they stand on tells: `FileShelf` over any `Folder` of
+//! files, the writes of `StdSink` over any writer of std. The system's own files and output tell nothing.
 #![tactic(auto)]
 
 pub mod cache_file;
@@ -18,6 +19,7 @@ mod calls;
 pub mod faults;
 pub mod file_cache;
 pub mod file_shelf;
+pub mod folder;
 mod front;
 pub mod mem_cache;
 pub mod mem_shelf;
@@ -25,13 +27,12 @@ pub mod mem_sink;
 pub mod shelf;
 pub mod sink;
 pub mod std_sink;
-#[cfg(test)]
-mod tests;
 
 pub use cache_file::CacheFile;
 pub use faults::{CacheFault, Failed, ShelfFault};
 pub use file_cache::FileCache;
 pub use file_shelf::FileShelf;
+pub use folder::Folder;
 pub use mem_cache::MemCache;
 pub use mem_shelf::MemShelf;
 pub use mem_sink::MemSink;

@@ -1,14 +1,15 @@
-// The adapters over real files, and each device in memory on a small table.
-use crate::{
-    CacheFault, CacheFile, Failed, FileCache, FileShelf, MemCache, MemShelf, MemSink, Shelf,
-    ShelfFault, Sink, StdSink, write_whole,
-};
+//! The adapters over real files, and each device in memory on a small table.
+
 use core_expr::Text;
 use std::alloc::Global;
 use std::test::Fail;
 use std::{fs, io};
+use tla_io::{
+    CacheFault, CacheFile, Failed, FileCache, FileShelf, MemCache, MemShelf, MemSink, Shelf,
+    ShelfFault, Sink, StdSink, write_whole,
+};
 
-// What a shelf answers, as text.
+/// What a shelf answers, as text.
 fn fetched<S: Shelf>(
     alloc: Global,
     shelf: &mut S,
@@ -23,7 +24,7 @@ fn fetched<S: Shelf>(
     }
 }
 
-// What a cache file answers to a read, as text.
+/// What a cache file answers to a read, as text.
 fn content<C: CacheFile>(
     alloc: Global,
     cache: &mut C,
@@ -37,7 +38,7 @@ fn content<C: CacheFile>(
     }
 }
 
-// Whether a replace failed.
+/// Whether a replace failed.
 fn is_refused<C: CacheFile>(
     alloc: Global,
     cache: &mut C,
@@ -135,28 +136,28 @@ fn a_report_into_a_sink_in_memory(rt: HostRuntime) -> Result<(), Fail> {
     Ok(())
 }
 
-fn long_text(alloc: Global, length: usize) -> Result<Vec<u8>, Fail> {
-    Ok(Vec::from_elem(alloc, b'x', length)?)
-}
-
 #[test]
 fn a_shelf_of_real_files(rt: HostRuntime) -> Result<(), Fail> {
     let _ = fs::remove_dir_all(&rt, "shelf_test");
     fs::create_dir(&rt, "shelf_test")?;
-    let long = long_text(rt.alloc(), 5000)?;
-    fs::write(&rt, "shelf_test/M.tla", long.as_slice())?;
+    let long = Vec::from_elem(rt.alloc(), b'x', 5000)?;
+    fs::write(&rt, "shelf_test/L.tla", long.as_slice())?;
+    fs::write(&rt, "shelf_test/M.tla", "one text")?;
+    fs::write(&rt, "shelf_test/M", "a file of another name")?;
     fs::create_dir(&rt, "shelf_test/D.tla")?;
     let mut shelf = FileShelf::new(&rt);
     for (name, at_most, want) in [
-        ("shelf_test/M", 0, 0),
-        ("shelf_test/M", 4096, 4096),
-        ("shelf_test/M", 4999, 4999),
-        ("shelf_test/M", 1048577, 5000),
-        ("shelf_test/Absent", 9, 4),
-        ("shelf_test/D", 9, 6),
+        ("shelf_test/M", 1048577, b"one text".as_slice()),
+        ("shelf_test/M", 3, b"one"),
+        ("shelf_test/M", 0, b""),
+        ("shelf_test/L", 4096, &long[..4096]),
+        ("shelf_test/L", 4999, &long[..4999]),
+        ("shelf_test/L", 1048577, long.as_slice()),
+        ("shelf_test/Absent", 9, b"none"),
+        ("shelf_test/D", 9, b"failed"),
     ] {
         let got = fetched(rt.alloc(), &mut shelf, name, at_most)?;
-        assert_eq!(rt; got.len(), want, "{name} {at_most}");
+        assert_eq!(rt; got.as_slice(), want, "{name} {at_most}");
     }
     assert_eq!(rt; shelf.faults(), 1);
     fs::remove_dir_all(&rt, "shelf_test")?;
@@ -192,7 +193,7 @@ fn a_cache_of_real_files(rt: HostRuntime) -> Result<(), Fail> {
     Ok(())
 }
 
-// A file of the current folder by a name of this many bytes, an odd number.
+/// A file of the current folder by a name of this many bytes, an odd number.
 fn far(alloc: Global, length: u64) -> Result<String, Fail> {
     let mut name = String::new(alloc);
     for _ in 0..length / 2 {
@@ -212,6 +213,10 @@ fn a_name_that_is_too_long(rt: HostRuntime) -> Result<(), Fail> {
     }
     assert_eq!(rt; cache.faults(), 2);
     fs::remove_file(&rt, "f")?;
+    let name = far(rt.alloc(), 5001)?;
+    let mut shelf = FileShelf::new(&rt);
+    let got = fetched(rt.alloc(), &mut shelf, name.as_str(), 9)?;
+    assert_eq!(rt; got.as_slice(), b"failed".as_slice());
     Ok(())
 }
 
