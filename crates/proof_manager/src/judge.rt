@@ -1,3 +1,5 @@
+//! From a module to its report.
+
 ghost use Rattle.std.specs.Prelude.{◌≡◌, ◌++◌, ◌≤◌, count_by, flat_map, length, IfOk, OnOk};
 ghost use Rattle.std.specs.List.{All};
 ghost use Rattle.propositional_module.specs.Laws.{IsWhole};
@@ -16,7 +18,7 @@ pub struct Judged {
     pub all_proved: bool,
 }
 
-// Answers a theorem, and appends its lines; whether it is proved.
+/// Answers a theorem, and appends its lines; whether it is proved.
 fn judge_theorem(
     alloc: Global,
     out: &mut Vec<u8>,
@@ -32,7 +34,7 @@ fn judge_theorem(
     Ok(is_proved(&answered.answer))
 }
 
-// Answers the theorems in order, and appends their lines; how many are proved.
+/// Answers the theorems in order, and appends their lines; how many are proved.
 fn judge_theorems(
     alloc: Global,
     out: &mut Vec<u8>,

@@ -1,3 +1,5 @@
+//! The lines of a report.
+
 ghost use Rattle.std.specs.Prelude.{◌≡◌, ◌++◌, length, map, codes, decimal, OnOk};
 ghost use Rattle.propositional_answer.specs.Answer.{HasValues, is_proved};
 ghost use Rattle.proof_manager.specs.Report.{name_at, line, place_text, name_text, status_text, valuation_text, verdict_text, theorem_line, leaf_line, theorem_lines, count_line};
@@ -11,7 +13,7 @@ use propositional_search::Answer;
 use std::alloc::AllocError;
 use tla_ast::Place;
 
-// Appends a line that begins with the first text and goes on with the second.
+/// Appends a line that begins with the first text and goes on with the second.
 fn push_line(out: &mut Vec<u8>, first: &[u8], second: &[u8]) -> Result<(), AllocError>
     ensures { OnOk result (out.new.items ≡ out.old.items ++ line (first.now ++ second.now)) }
 {
@@ -20,7 +22,7 @@ fn push_line(out: &mut Vec<u8>, first: &[u8], second: &[u8]) -> Result<(), Alloc
     out.extend_from_slice(b"\n")
 }
 
-// Appends a place.
+/// Appends a place.
 fn push_place(out: &mut Vec<u8>, place: Place) -> Result<(), AllocError>
     ensures { OnOk result (out.new.items ≡ out.old.items ++ place_text place) }
 {
@@ -29,7 +31,7 @@ fn push_place(out: &mut Vec<u8>, place: Place) -> Result<(), AllocError>
     push_number(out, place.column)
 }
 
-// The name of a theorem; `-` where it has none.
+/// The name of a theorem; `-` where it has none.
 fn name_of(name: &Option<Text>) -> &[u8]
     ensures { result.now ≡ name_text name.now }
 {
@@ -39,7 +41,7 @@ fn name_of(name: &Option<Text>) -> &[u8]
     }
 }
 
-// Appends a number of turns.
+/// Appends a number of turns.
 fn push_turns(out: &mut Vec<u8>, verdict: &[u8], turns: u64) -> Result<(), AllocError>
     ensures { OnOk result (out.new.items ≡ out.old.items ++ (verdict.now ++ decimal turns ++ codes " turns")) }
 {
@@ -48,7 +50,7 @@ fn push_turns(out: &mut Vec<u8>, verdict: &[u8], turns: u64) -> Result<(), Alloc
     out.extend_from_slice(b" turns")
 }
 
-// Appends what is printed of a saturated answer.
+/// Appends what is printed of a saturated answer.
 fn push_saturated(
     out: &mut Vec<u8>,
     constants: &[Text],
@@ -64,7 +66,7 @@ fn push_saturated(
     push_valuation(out, constants, places, values)
 }
 
-// Appends what is printed of an answer.
+/// Appends what is printed of an answer.
 fn push_verdict(
     out: &mut Vec<u8>,
     constants: &[Text],
@@ -83,7 +85,7 @@ fn push_verdict(
     }
 }
 
-// Appends the line of a theorem.
+/// Appends the line of a theorem.
 fn push_theorem_line(
     out: &mut Vec<u8>,
     theorem: &Theorem,
@@ -103,7 +105,7 @@ fn push_theorem_line(
     push_line(out, b" ", status)
 }
 
-// Appends the line of a leaf.
+/// Appends the line of a leaf.
 fn push_leaf_line(
     out: &mut Vec<u8>,
     constants: &[Text],

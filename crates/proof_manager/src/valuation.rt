@@ -1,10 +1,12 @@
+//! The values of constants, as a report shows them.
+
 ghost use Rattle.std.specs.Prelude.{◌≡◌, ◌++◌, length, map, codes, OnOk};
 ghost use Rattle.proof_manager.specs.Report.{name_at, value_text, more_values, valuation_text};
 
 use core_expr::Text;
 use std::alloc::AllocError;
 
-// The name at a place.
+/// The name at a place.
 fn name_of(constants: &[Text], place: u64) -> &[u8]
     ensures { result.now ≡ name_at constants.now place }
 {
@@ -14,7 +16,7 @@ fn name_of(constants: &[Text], place: u64) -> &[u8]
     }
 }
 
-// Appends a symbol's name and its value.
+/// Appends a symbol's name and its value.
 fn push_value(out: &mut Vec<u8>, name: &[u8], value: bool) -> Result<(), AllocError>
     ensures { OnOk result (out.new.items ≡ out.old.items ++ value_text name.now value) }
 {
@@ -24,7 +26,7 @@ fn push_value(out: &mut Vec<u8>, name: &[u8], value: bool) -> Result<(), AllocEr
     out.extend_from_slice(truth)
 }
 
-// Appends the value of the constant at a place, after a comma and a blank.
+/// Appends the value of the constant at a place, after a comma and a blank.
 fn push_next(
     out: &mut Vec<u8>,
     constants: &[Text],
@@ -37,7 +39,7 @@ fn push_next(
     push_value(out, name_of(constants, place), value)
 }
 
-// Appends the values of the constants at these places, each after a comma and a blank.
+/// Appends the values of the constants at these places, each after a comma and a blank.
 fn push_more(
     out: &mut Vec<u8>,
     constants: &[Text],

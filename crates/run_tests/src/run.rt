@@ -156,12 +156,6 @@ fn each_refusal_has_its_place_and_kind(rt: HostRuntime) -> Result<(), Fail> {
                 "refused M 3:11 Unsupported form",
             ),
             (
-                "an operator outside the profile",
-                "---- MODULE M ----\nCONSTANT a\nTHEOREM a % a = a OBVIOUS\n====",
-                3,
-                "refused M 3:11 Unsupported %",
-            ),
-            (
                 "a number that is too large",
                 "---- MODULE M ----\nTHEOREM T == 340282366920938463463374607431768211456 = 1 OBVIOUS\n====",
                 3,

@@ -1,8 +1,13 @@
 -- What reading a file's front and the name beside a file are.
-use Rattle.std.specs.Prelude.{◌≡◌, ◌≤◌, ℕ, ◌++◌, take, length, codes, Option, None, Some, IsSome, Result, Ok, Err, option_map}
+use Rattle.std.specs.Prelude.{◌≡◌, ◌≢◌, ◌≤◌, ℕ, List, [], ◌++◌, Vec, take, length, codes, Option, None, Some, IsSome, Result, Ok, Err, option_map}
 use Rattle.std.specs.IoError.{error_kind}
 use Rattle.std.specs.declared.io.Error.{Error}
-use Rattle.std.specs.declared.io.ErrorKind.TheVariants.{NotFound}
+use Rattle.std.specs.declared.io.ErrorKind.TheVariants.{NotFound, InvalidData}
+use Rattle.std.specs.Iterator.{DrainsIf}
+use Rattle.std.specs.Vec.Iter.{into_iter_steps}
+use Rattle.std.specs.declared.vec.IntoIter.{IntoIter}
+use Rattle.std.specs.declared.alloc.Global.{Global}
+use Rattle.core_expr.specs.declared.memory.Memory.{Memory}
 use Rattle.tla_io.specs.Told.{Bytes, Folder}
 use Rattle.tla_io.specs.declared.front.Front.{Front}
 use Rattle.tla_io.specs.declared.front.Front.TheVariants as front
@@ -48,3 +53,10 @@ IsWithin (front.Bytes bytes) at_most = length bytes.items ≤ at_most
 IsWithin front.Missing at_most = Unit {0}
 IsWithin front.Failed at_most = Unit {0}
 IsWithin front.Memory at_most = Unit {0}
+
+-- the words that were read: none where one of them is no UTF-8, and any other error is want of memory
+abbrev pub HasWords : {X Z : Type 0} → Result (IntoIter X Z) Error → Result (Vec X Global) Memory → Type 0
+HasWords (Ok words) (Ok list) = DrainsIf into_iter_steps (Unit {0}) words list.items
+HasWords (Ok words) (Err e) = Unit {0}
+HasWords (Err e) (Ok list) = (error_kind e ≡ InvalidData) × (list.items ≡ [])
+HasWords (Err e) (Err m) = error_kind e ≢ InvalidData

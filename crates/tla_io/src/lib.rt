@@ -27,6 +27,7 @@ pub mod mem_sink;
 pub mod shelf;
 pub mod sink;
 pub mod std_sink;
+pub mod words;
 
 pub use cache_file::CacheFile;
 pub use faults::{CacheFault, Failed, ShelfFault};
@@ -39,3 +40,4 @@ pub use mem_sink::MemSink;
 pub use shelf::Shelf;
 pub use sink::{Sink, write_whole};
 pub use std_sink::StdSink;
+pub use words::command_words;
