@@ -26,7 +26,8 @@ fn judge_theorem(
     theorem: &Theorem,
 ) -> Result<bool, Memory>
     requires { IsWhole theorem.now.goal }
-    ensures lines { OnOk result (out.new.items ≡ out.old.items ++ lines_of constants.now theorem.now) }
+    ensures lines { OnOk result (out.new.items
+        ≡ out.old.items ++ lines_of constants.now theorem.now) }
     ensures proved { IfOk result (λ b. b ≡ holds theorem.now) }
 {
     let answered = answer_to(alloc, theorem.goal.as_slice())?;
@@ -42,7 +43,8 @@ fn judge_theorems(
     theorems: &[Theorem],
 ) -> Result<usize, Memory>
     requires { All (λ t. IsWhole t.goal) theorems.now }
-    ensures lines { OnOk result (out.new.items ≡ out.old.items ++ flat_map (lines_of constants.now) theorems.now) }
+    ensures lines { OnOk result (out.new.items
+        ≡ out.old.items ++ flat_map (lines_of constants.now) theorems.now) }
     ensures count { IfOk result (λ n. n ≡ count_by holds theorems.now) }
     ensures within { IfOk result (λ n. n ≤ length theorems.now) }
 {

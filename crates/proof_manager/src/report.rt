@@ -1,8 +1,8 @@
 //! The lines of a report.
 
-ghost use Rattle.std.specs.Prelude.{◌≡◌, ◌++◌, length, map, codes, decimal, OnOk};
+ghost use Rattle.std.specs.Prelude.{◌≡◌, ◌++◌, length, codes, decimal, OnOk};
 ghost use Rattle.propositional_answer.specs.Answer.{HasValues, is_proved};
-ghost use Rattle.proof_manager.specs.Report.{name_at, line, place_text, name_text, status_text, valuation_text, verdict_text, theorem_line, leaf_line, theorem_lines, count_line};
+ghost use Rattle.proof_manager.specs.Report.{names_at, line, place_text, name_text, status_text, valuation_text, verdict_text, theorem_line, leaf_line, theorem_lines, count_line};
 
 use crate::status::push_number;
 use crate::valuation::push_valuation;
@@ -43,7 +43,8 @@ fn name_of(name: &Option<Text>) -> &[u8]
 
 /// Appends a number of turns.
 fn push_turns(out: &mut Vec<u8>, verdict: &[u8], turns: u64) -> Result<(), AllocError>
-    ensures { OnOk result (out.new.items ≡ out.old.items ++ (verdict.now ++ decimal turns ++ codes " turns")) }
+    ensures { OnOk result (out.new.items
+        ≡ out.old.items ++ (verdict.now ++ decimal turns ++ codes " turns")) }
 {
     out.extend_from_slice(verdict)?;
     push_number(out, turns)?;
@@ -59,7 +60,9 @@ fn push_saturated(
     turns: u64,
 ) -> Result<(), AllocError>
     requires { length values.now ≡ length places.now }
-    ensures { OnOk result (out.new.items ≡ out.old.items ++ (codes "saturated, " ++ decimal turns ++ codes " turns" ++ codes ": " ++ valuation_text (map (name_at constants.now) places.now) values.now)) }
+    ensures { OnOk result (out.new.items
+        ≡ out.old.items ++ (codes "saturated, " ++ decimal turns ++ codes " turns" ++ codes ": "
+        ++ valuation_text (names_at constants.now places.now) values.now)) }
 {
     push_turns(out, b"saturated, ", turns)?;
     out.extend_from_slice(b": ")?;
@@ -74,7 +77,8 @@ fn push_verdict(
     answer: &Answer,
 ) -> Result<(), AllocError>
     requires { HasValues (length places.now) answer.now }
-    ensures { OnOk result (out.new.items ≡ out.old.items ++ verdict_text (map (name_at constants.now) places.now) answer.now) }
+    ensures { OnOk result (out.new.items
+        ≡ out.old.items ++ verdict_text (names_at constants.now places.now) answer.now) }
 {
     match answer {
         Answer::Proved { turns } => push_turns(out, b"proved, ", *turns),
@@ -113,7 +117,9 @@ fn push_leaf_line(
     answered: &Answered,
 ) -> Result<(), AllocError>
     requires { HasValues (length answered.now.order.items) answered.now.answer }
-    ensures { OnOk result (out.new.items ≡ out.old.items ++ leaf_line theorem.now (map (name_at constants.now) answered.now.order.items) answered.now.answer) }
+    ensures { OnOk result (out.new.items
+        ≡ out.old.items ++ leaf_line theorem.now
+            (names_at constants.now answered.now.order.items) answered.now.answer) }
 {
     out.extend_from_slice(b"  leaf ")?;
     push_place(out, theorem.leaf)?;
@@ -130,7 +136,9 @@ pub fn push_theorem(
     answered: &Answered,
 ) -> Result<(), AllocError>
     requires { HasValues (length answered.now.order.items) answered.now.answer }
-    ensures { OnOk result (out.new.items ≡ out.old.items ++ theorem_lines theorem.now (map (name_at constants.now) answered.now.order.items) answered.now.answer) }
+    ensures { OnOk result (out.new.items
+        ≡ out.old.items ++ theorem_lines theorem.now
+            (names_at constants.now answered.now.order.items) answered.now.answer) }
 {
     push_theorem_line(out, theorem, &answered.answer)?;
     push_leaf_line(out, constants, theorem, answered)

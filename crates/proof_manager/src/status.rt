@@ -45,7 +45,9 @@ pub fn push_number(out: &mut Vec<u8>, number: u64) -> Result<(), AllocError>
 
 /// The text of a refusal.
 fn refusal(alloc: Global, name: &[u8], place: Place, kind: &[u8]) -> Result<Vec<u8>, AllocError>
-    ensures { IfOk result (λ v. v.items ≡ codes "refused " ++ name.now ++ codes " " ++ decimal place.line ++ codes ":" ++ decimal place.column ++ codes " " ++ kind.now) }
+    ensures { IfOk result (λ v. v.items
+        ≡ codes "refused " ++ name.now ++ codes " " ++ decimal place.line ++ codes ":"
+        ++ decimal place.column ++ codes " " ++ kind.now) }
 {
     let mut out = Vec::from_slice(alloc, b"refused ")?;
     out.extend_from_slice(name)?;

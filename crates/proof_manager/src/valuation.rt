@@ -1,7 +1,7 @@
 //! The values of constants, as a report shows them.
 
-ghost use Rattle.std.specs.Prelude.{◌≡◌, ◌++◌, length, map, codes, OnOk};
-ghost use Rattle.proof_manager.specs.Report.{name_at, value_text, more_values, valuation_text};
+ghost use Rattle.std.specs.Prelude.{◌≡◌, ◌++◌, length, codes, OnOk};
+ghost use Rattle.proof_manager.specs.Report.{name_at, names_at, value_text, more_values, valuation_text};
 
 use core_expr::Text;
 use std::alloc::AllocError;
@@ -33,7 +33,8 @@ fn push_next(
     place: u64,
     value: bool,
 ) -> Result<(), AllocError>
-    ensures { OnOk result (out.new.items ≡ out.old.items ++ (codes ", " ++ value_text (name_at constants.now place) value)) }
+    ensures { OnOk result (out.new.items
+        ≡ out.old.items ++ (codes ", " ++ value_text (name_at constants.now place) value)) }
 {
     out.extend_from_slice(b", ")?;
     push_value(out, name_of(constants, place), value)
@@ -47,7 +48,8 @@ fn push_more(
     values: &[bool],
 ) -> Result<(), AllocError>
     requires { length values.now ≡ length places.now }
-    ensures { OnOk result (out.new.items ≡ out.old.items ++ more_values (map (name_at constants.now) places.now) values.now) }
+    ensures { OnOk result (out.new.items
+        ≡ out.old.items ++ more_values (names_at constants.now places.now) values.now) }
 {
     for i in 0..places.len() {
         push_next(out, constants, places[i], values[i])?;
@@ -63,7 +65,8 @@ pub fn push_valuation(
     values: &[bool],
 ) -> Result<(), AllocError>
     requires { length values.now ≡ length places.now }
-    ensures { OnOk result (out.new.items ≡ out.old.items ++ valuation_text (map (name_at constants.now) places.now) values.now) }
+    ensures { OnOk result (out.new.items
+        ≡ out.old.items ++ valuation_text (names_at constants.now places.now) values.now) }
 {
     if places.is_empty() {
         return Ok(());
