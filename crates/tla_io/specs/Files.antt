@@ -1,5 +1,5 @@
 -- What reading a file's front and the name beside a file are.
-use Rattle.std.specs.Prelude.{◌≡◌, ◌≢◌, ◌≤◌, ℕ, List, [], ◌++◌, Vec, take, length, codes, Option, None, Some, IsSome, Result, Ok, Err, option_map}
+use Rattle.std.specs.Prelude.{◌≡◌, ◌≢◌, ◌≤◌, ℕ, [], ◌++◌, Vec, take, length, codes, Option, None, Some, IsSome, Result, Ok, Err, option_map}
 use Rattle.std.specs.IoError.{error_kind}
 use Rattle.std.specs.declared.io.Error.{Error}
 use Rattle.std.specs.declared.io.ErrorKind.TheVariants.{NotFound, InvalidData}
