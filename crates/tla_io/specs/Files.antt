@@ -1,5 +1,5 @@
 -- What reading a file's front and the name beside a file are.
-use Rattle.std.specs.Prelude.{◌≡◌, ◌≢◌, ◌≤◌, ℕ, [], ◌++◌, Vec, take, length, codes, Option, None, Some, IsSome, Result, Ok, Err, option_map}
+use Rattle.std.specs.Prelude.{◌≡◌, ◌≢◌, ◌≤◌, ℕ, [], ◌++◌, Vec, take, length, codes, Option, None, Some, IsSome, Result, Ok, Err, option_map, unwrap_or}
 use Rattle.std.specs.IoError.{error_kind}
 use Rattle.std.specs.declared.io.Error.{Error}
 use Rattle.std.specs.declared.io.ErrorKind.TheVariants.{NotFound, InvalidData}
@@ -9,6 +9,7 @@ use Rattle.std.specs.declared.vec.IntoIter.{IntoIter}
 use Rattle.std.specs.declared.alloc.Global.{Global}
 use Rattle.core_expr.specs.declared.memory.Memory.{Memory}
 use Rattle.tla_io.specs.Told.{Bytes, Folder}
+use Rattle.tla_io.specs.declared.faults.CacheFault.{CacheFault}
 use Rattle.tla_io.specs.declared.front.Front.{Front}
 use Rattle.tla_io.specs.declared.front.Front.TheVariants as front
 
@@ -46,6 +47,16 @@ IsFrontAt (front.Bytes bytes) (Some held) path at_most = Some bytes.items ≡ op
 IsFrontAt front.Missing (Some held) path at_most = held path ≡ None
 IsFrontAt front.Failed (Some held) path at_most = Unit {0}
 IsFrontAt front.Memory (Some held) path at_most = Unit {0}
+
+-- what is read is the front of what is held, and nothing where no file is, where that is told
+abbrev pub ReadsFile : Option Folder → Bytes → ℕ → Result (Vec ℕ Global) CacheFault → Type 0
+ReadsFile None path at_most result = Unit {0}
+ReadsFile (Some held) path at_most (Ok bytes) = bytes.items ≡ take at_most (unwrap_or (held path) [])
+ReadsFile (Some held) path at_most (Err fault) = Unit {0}
+
+-- the bytes were put into the file beside this one, and that was given this one's path
+abbrev pub IsReplaced : (Bytes → Bytes → Type 0) → (Bytes → Bytes → Type 0) → Bytes → Bytes → Type 0
+IsReplaced was_put was_renamed path bytes = was_put (path ++ codes ".new") bytes × was_renamed (path ++ codes ".new") path
 
 -- no more bytes were read than were asked for
 abbrev pub IsWithin : Front → ℕ → Type 0

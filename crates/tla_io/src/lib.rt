@@ -9,9 +9,9 @@
 //! - `write_whole` ends, and its sink took all the bytes, or it fails and its sink took a part of them from the front.
 //!
 //! `MemShelf`, `MemCache` and `MemSink` are devices in memory, which tell what they hold and fail exactly at the calls
-//! that they are given. `FileShelf`, `FileCache` and `StdSink` reach real files and the standard output, and keep a count
-//! that every error raises. What they do is proved as far as what they stand on tells: `FileShelf` over any `Folder` of
-//! files, the writes of `StdSink` over any writer of std. The system's own files and output tell nothing.
+//! that they are given. `FileShelf` and `FileCache` stand on any `Folder` of files, and `StdSink` on any writer of std: they
+//! keep a count that every error raises, and their own clauses say what was opened, read, put, renamed and written there.
+//! What a runtime reaches is such a folder; only its three calls, and the system's writer, tell nothing.
 #![tactic(auto)]
 
 pub mod cache_file;
