@@ -87,8 +87,8 @@ Ends status.ReadFault folder root old new = Unit {0}
 Ends status.Memory folder root old new = Unit {0}
 
 -- the same, where the words name a module and the shelf tells what it holds
-abbrev pub MapCause : Status → Option Folder → Option Bytes → Option Bytes → Option Bytes → Type 0
-MapCause s told root old new = WhereTold root (λ name. WhereTold told (λ folder. Ends s folder name old new))
+abbrev pub ReportCause : Status → Option Folder → Option Bytes → Option Bytes → Option Bytes → Type 0
+ReportCause s told root old new = WhereTold root (λ name. WhereTold told (λ folder. Ends s folder name old new))
 
 -- what is so of each theorem that is reported, in a report that was taken whole or in part
 abbrev pub OfReported : (Theorem → Type 0) → Status → Folder → Bytes → Type 0

@@ -1,5 +1,5 @@
 -- The report of a run on a module.
-use Rattle.std.specs.Prelude.{ℕ, Bool, true, false, List, [], ◌∷◌, ◌++◌, Option, Some, None, codes, decimal, slice_index_or}
+use Rattle.std.specs.Prelude.{ℕ, Bool, true, false, List, [], ◌∷◌, ◌++◌, Option, Some, None, codes, decimal, map, slice_index_or}
 use Rattle.tla_ast.specs.declared.place.Place.{Place}
 use Rattle.propositional_search.specs.declared.search.Answer.{Answer}
 use Rattle.propositional_search.specs.declared.search.Answer.TheVariants.{Proved, Saturated, Spent}
@@ -71,3 +71,7 @@ count_line theorems proved = line (decimal theorems ++ codes " theorems, " ++ de
 -- the name at a place, from 0, among these
 abbrev pub name_at : List Bytes → ℕ → Bytes
 name_at names place = slice_index_or names place []
+
+-- the names at these places
+abbrev pub names_at : List Bytes → List ℕ → List Bytes
+names_at names places = map (name_at names) places

@@ -1,3 +1,5 @@
+//! From a module to its report.
+
 ghost use Rattle.std.specs.Prelude.{◌≡◌, ◌++◌, ◌≤◌, count_by, flat_map, length, IfOk, OnOk};
 ghost use Rattle.std.specs.List.{All};
 ghost use Rattle.propositional_module.specs.Laws.{IsWhole};
@@ -16,7 +18,7 @@ pub struct Judged {
     pub all_proved: bool,
 }
 
-// Answers a theorem, and appends its lines; whether it is proved.
+/// Answers a theorem, and appends its lines; whether it is proved.
 fn judge_theorem(
     alloc: Global,
     out: &mut Vec<u8>,
@@ -24,7 +26,8 @@ fn judge_theorem(
     theorem: &Theorem,
 ) -> Result<bool, Memory>
     requires { IsWhole theorem.now.goal }
-    ensures lines { OnOk result (out.new.items ≡ out.old.items ++ lines_of constants.now theorem.now) }
+    ensures lines { OnOk result (out.new.items
+        ≡ out.old.items ++ lines_of constants.now theorem.now) }
     ensures proved { IfOk result (λ b. b ≡ holds theorem.now) }
 {
     let answered = answer_to(alloc, theorem.goal.as_slice())?;
@@ -32,7 +35,7 @@ fn judge_theorem(
     Ok(is_proved(&answered.answer))
 }
 
-// Answers the theorems in order, and appends their lines; how many are proved.
+/// Answers the theorems in order, and appends their lines; how many are proved.
 fn judge_theorems(
     alloc: Global,
     out: &mut Vec<u8>,
@@ -40,7 +43,8 @@ fn judge_theorems(
     theorems: &[Theorem],
 ) -> Result<usize, Memory>
     requires { All (λ t. IsWhole t.goal) theorems.now }
-    ensures lines { OnOk result (out.new.items ≡ out.old.items ++ flat_map (lines_of constants.now) theorems.now) }
+    ensures lines { OnOk result (out.new.items
+        ≡ out.old.items ++ flat_map (lines_of constants.now) theorems.now) }
     ensures count { IfOk result (λ n. n ≡ count_by holds theorems.now) }
     ensures within { IfOk result (λ n. n ≤ length theorems.now) }
 {

@@ -15,6 +15,3 @@ mod words;
 pub use status::Status;
 pub use tla_ast::{Kind, Place};
 pub use top::run;
-
-#[cfg(test)]
-mod tests;

@@ -1,3 +1,5 @@
+//! The module that is to be answered.
+
 ghost use Rattle.std.specs.Prelude.{◌≡◌, IfOk};
 ghost use Rattle.std.specs.List.{All};
 ghost use Rattle.propositional_module.specs.Laws.{IsWhole};
@@ -26,7 +28,7 @@ pub enum LoadFault {
 /// More bytes than a module may have.
 const AT_MOST: u64 = 1048577;
 
-// Reads a module's text.
+/// Reads a module's text.
 fn read_text(alloc: Global, name: &str, text: &[u8]) -> Result<PropositionalModule, LoadFault>
     ensures text { Reads result name.now text.now }
     ensures whole { IfOk result (λ m. All (λ t. IsWhole t.goal) m.theorems) }
@@ -48,6 +50,7 @@ pub fn load<S: Shelf>(
     ensures told { Loads result (S.folder shelf.old) name.now }
     ensures whole { IfOk result (λ m. All (λ t. IsWhole t.goal) m.theorems) }
     ensures cause { LoadCause result (S.count shelf.old) (S.count shelf.new) }
+    ensures kept { S.folder shelf.new ≡ S.folder shelf.old }
 {
     front_decides();
     match shelf.fetch(alloc, name, AT_MOST) {

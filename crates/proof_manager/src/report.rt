@@ -1,6 +1,8 @@
-ghost use Rattle.std.specs.Prelude.{◌≡◌, ◌++◌, length, map, codes, decimal, OnOk};
+//! The lines of a report.
+
+ghost use Rattle.std.specs.Prelude.{◌≡◌, ◌++◌, length, codes, decimal, OnOk};
 ghost use Rattle.propositional_answer.specs.Answer.{HasValues, is_proved};
-ghost use Rattle.proof_manager.specs.Report.{name_at, line, place_text, name_text, status_text, valuation_text, verdict_text, theorem_line, leaf_line, theorem_lines, count_line};
+ghost use Rattle.proof_manager.specs.Report.{names_at, line, place_text, name_text, status_text, valuation_text, verdict_text, theorem_line, leaf_line, theorem_lines, count_line};
 
 use crate::status::push_number;
 use crate::valuation::push_valuation;
@@ -11,7 +13,7 @@ use propositional_search::Answer;
 use std::alloc::AllocError;
 use tla_ast::Place;
 
-// Appends a line that begins with the first text and goes on with the second.
+/// Appends a line that begins with the first text and goes on with the second.
 fn push_line(out: &mut Vec<u8>, first: &[u8], second: &[u8]) -> Result<(), AllocError>
     ensures { OnOk result (out.new.items ≡ out.old.items ++ line (first.now ++ second.now)) }
 {
@@ -20,7 +22,7 @@ fn push_line(out: &mut Vec<u8>, first: &[u8], second: &[u8]) -> Result<(), Alloc
     out.extend_from_slice(b"\n")
 }
 
-// Appends a place.
+/// Appends a place.
 fn push_place(out: &mut Vec<u8>, place: Place) -> Result<(), AllocError>
     ensures { OnOk result (out.new.items ≡ out.old.items ++ place_text place) }
 {
@@ -29,7 +31,7 @@ fn push_place(out: &mut Vec<u8>, place: Place) -> Result<(), AllocError>
     push_number(out, place.column)
 }
 
-// The name of a theorem; `-` where it has none.
+/// The name of a theorem; `-` where it has none.
 fn name_of(name: &Option<Text>) -> &[u8]
     ensures { result.now ≡ name_text name.now }
 {
@@ -39,16 +41,17 @@ fn name_of(name: &Option<Text>) -> &[u8]
     }
 }
 
-// Appends a number of turns.
+/// Appends a number of turns.
 fn push_turns(out: &mut Vec<u8>, verdict: &[u8], turns: u64) -> Result<(), AllocError>
-    ensures { OnOk result (out.new.items ≡ out.old.items ++ (verdict.now ++ decimal turns ++ codes " turns")) }
+    ensures { OnOk result (out.new.items
+        ≡ out.old.items ++ (verdict.now ++ decimal turns ++ codes " turns")) }
 {
     out.extend_from_slice(verdict)?;
     push_number(out, turns)?;
     out.extend_from_slice(b" turns")
 }
 
-// Appends what is printed of a saturated answer.
+/// Appends what is printed of a saturated answer.
 fn push_saturated(
     out: &mut Vec<u8>,
     constants: &[Text],
@@ -57,14 +60,16 @@ fn push_saturated(
     turns: u64,
 ) -> Result<(), AllocError>
     requires { length values.now ≡ length places.now }
-    ensures { OnOk result (out.new.items ≡ out.old.items ++ (codes "saturated, " ++ decimal turns ++ codes " turns" ++ codes ": " ++ valuation_text (map (name_at constants.now) places.now) values.now)) }
+    ensures { OnOk result (out.new.items
+        ≡ out.old.items ++ (codes "saturated, " ++ decimal turns ++ codes " turns" ++ codes ": "
+        ++ valuation_text (names_at constants.now places.now) values.now)) }
 {
     push_turns(out, b"saturated, ", turns)?;
     out.extend_from_slice(b": ")?;
     push_valuation(out, constants, places, values)
 }
 
-// Appends what is printed of an answer.
+/// Appends what is printed of an answer.
 fn push_verdict(
     out: &mut Vec<u8>,
     constants: &[Text],
@@ -72,7 +77,8 @@ fn push_verdict(
     answer: &Answer,
 ) -> Result<(), AllocError>
     requires { HasValues (length places.now) answer.now }
-    ensures { OnOk result (out.new.items ≡ out.old.items ++ verdict_text (map (name_at constants.now) places.now) answer.now) }
+    ensures { OnOk result (out.new.items
+        ≡ out.old.items ++ verdict_text (names_at constants.now places.now) answer.now) }
 {
     match answer {
         Answer::Proved { turns } => push_turns(out, b"proved, ", *turns),
@@ -83,7 +89,7 @@ fn push_verdict(
     }
 }
 
-// Appends the line of a theorem.
+/// Appends the line of a theorem.
 fn push_theorem_line(
     out: &mut Vec<u8>,
     theorem: &Theorem,
@@ -103,7 +109,7 @@ fn push_theorem_line(
     push_line(out, b" ", status)
 }
 
-// Appends the line of a leaf.
+/// Appends the line of a leaf.
 fn push_leaf_line(
     out: &mut Vec<u8>,
     constants: &[Text],
@@ -111,7 +117,9 @@ fn push_leaf_line(
     answered: &Answered,
 ) -> Result<(), AllocError>
     requires { HasValues (length answered.now.order.items) answered.now.answer }
-    ensures { OnOk result (out.new.items ≡ out.old.items ++ leaf_line theorem.now (map (name_at constants.now) answered.now.order.items) answered.now.answer) }
+    ensures { OnOk result (out.new.items
+        ≡ out.old.items ++ leaf_line theorem.now
+            (names_at constants.now answered.now.order.items) answered.now.answer) }
 {
     out.extend_from_slice(b"  leaf ")?;
     push_place(out, theorem.leaf)?;
@@ -128,7 +136,9 @@ pub fn push_theorem(
     answered: &Answered,
 ) -> Result<(), AllocError>
     requires { HasValues (length answered.now.order.items) answered.now.answer }
-    ensures { OnOk result (out.new.items ≡ out.old.items ++ theorem_lines theorem.now (map (name_at constants.now) answered.now.order.items) answered.now.answer) }
+    ensures { OnOk result (out.new.items
+        ≡ out.old.items ++ theorem_lines theorem.now
+            (names_at constants.now answered.now.order.items) answered.now.answer) }
 {
     push_theorem_line(out, theorem, &answered.answer)?;
     push_leaf_line(out, constants, theorem, answered)

@@ -1,3 +1,5 @@
+//! How a run ended.
+
 ghost use Rattle.std.specs.Prelude.{◌≡◌, ◌++◌, IfOk, OnOk, codes, decimal};
 ghost use Rattle.proof_manager.specs.Status.{code_of, text_of};
 
@@ -41,9 +43,11 @@ pub fn push_number(out: &mut Vec<u8>, number: u64) -> Result<(), AllocError>
     out.extend_from_slice(buffer.format(number).as_bytes())
 }
 
-// The text of a refusal.
+/// The text of a refusal.
 fn refusal(alloc: Global, name: &[u8], place: Place, kind: &[u8]) -> Result<Vec<u8>, AllocError>
-    ensures { IfOk result (λ v. v.items ≡ codes "refused " ++ name.now ++ codes " " ++ decimal place.line ++ codes ":" ++ decimal place.column ++ codes " " ++ kind.now) }
+    ensures { IfOk result (λ v. v.items
+        ≡ codes "refused " ++ name.now ++ codes " " ++ decimal place.line ++ codes ":"
+        ++ decimal place.column ++ codes " " ++ kind.now) }
 {
     let mut out = Vec::from_slice(alloc, b"refused ")?;
     out.extend_from_slice(name)?;
@@ -56,7 +60,7 @@ fn refusal(alloc: Global, name: &[u8], place: Place, kind: &[u8]) -> Result<Vec<
     Ok(out)
 }
 
-// The text of an absence.
+/// The text of an absence.
 fn absence(alloc: Global, name: &[u8]) -> Result<Vec<u8>, AllocError>
     ensures { IfOk result (λ v. v.items ≡ codes "not found " ++ name.now) }
 {

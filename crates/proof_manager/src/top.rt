@@ -1,8 +1,10 @@
-ghost use Rattle.std.specs.Prelude.{◌≡◌, map, string_bytes};
+//! The top call.
+
+ghost use Rattle.std.specs.Prelude.{◌≡◌};
 ghost use Rattle.std.specs.List.{All};
 ghost use Rattle.propositional_module.specs.Laws.{IsWhole};
-ghost use Rattle.proof_manager.specs.Words.{root_of};
-ghost use Rattle.proof_manager.specs.Causes.{IsAbsence, IsRefusal, IsJust, IsDecided, WordsCause, MapCause, Justified, Decided, ShelfCause, SinkCause, IsUnwritten, IsUntouched, Writes};
+ghost use Rattle.proof_manager.specs.Words.{named_by};
+ghost use Rattle.proof_manager.specs.Causes.{IsAbsence, IsRefusal, IsJust, IsDecided, WordsCause, ReportCause, Justified, Decided, ShelfCause, SinkCause, IsUnwritten, IsUntouched, Writes};
 
 use crate::judge::judge;
 use crate::load::{LoadFault, load};
@@ -15,7 +17,7 @@ use std::alloc::Global;
 use tla_ast::{Kind, Place};
 use tla_io::{CacheFile, Shelf, Sink, write_whole};
 
-// The status of a module that is not there.
+/// The status of a module that is not there.
 fn not_found(alloc: Global, name: &str) -> Status
     ensures { IsAbsence result name.now }
 {
@@ -25,7 +27,7 @@ fn not_found(alloc: Global, name: &str) -> Status
     }
 }
 
-// The status of a module whose text has a fault.
+/// The status of a module whose text has a fault.
 fn refused(alloc: Global, name: &str, place: Place, kind: Kind) -> Status
     ensures { IsRefusal result name.now place kind }
 {
@@ -39,7 +41,7 @@ fn refused(alloc: Global, name: &str, place: Place, kind: Kind) -> Status
     }
 }
 
-// What answers mean, for each theorem of a module.
+/// What answers mean, for each theorem of a module.
 fn theorems_are_just(parsed: &PropositionalModule)
     ensures just { All IsJust parsed.now.theorems }
     ensures decided { All IsDecided parsed.now.theorems }
@@ -50,7 +52,7 @@ fn theorems_are_just(parsed: &PropositionalModule)
     let _parsed = parsed;
 }
 
-// Answers the theorems and writes the report.
+/// Answers the theorems and writes the report.
 fn answer<K: Sink>(alloc: Global, name: &str, parsed: &PropositionalModule, out: &mut K) -> Status
     requires { All (λ t. IsWhole t.goal) parsed.now.theorems }
     ensures report { Writes result name.now parsed.now (K.taken out.old) (K.taken out.new) }
@@ -82,22 +84,24 @@ pub fn run<S: Shelf, C: CacheFile, K: Sink>(
     cache: &mut C,
     out: &mut K,
 ) -> Status
-    // Unlawful words are told exactly, and then no device was called.
-    ensures words { WordsCause result (root_of (map string_bytes words.now.items)) }
-    ensures untouched { IsUntouched result shelf.old shelf.new }
-    ensures cache { cache.new ≡ cache.old }
+    // Unlawful words are told exactly, and then no device was called. The cache is never called.
+    ensures unlawful_words { WordsCause result (named_by words.now.items) }
+    ensures shelf_uncalled { IsUntouched result shelf.old shelf.new }
+    ensures cache_uncalled { cache.new ≡ cache.old }
 
     // What the status says of the module's text and of the report.
-    ensures map { MapCause result (S.folder shelf.old) (root_of (map string_bytes words.now.items)) (K.taken out.old) (K.taken out.new) }
+    ensures report { ReportCause result (S.folder shelf.old) (named_by words.now.items)
+        (K.taken out.old) (K.taken out.new) }
 
     // Of each theorem: a proof has its derivation, a printed valuation falsifies, and few connectives are decided.
-    ensures justified { Justified result (S.folder shelf.old) (root_of (map string_bytes words.now.items)) }
-    ensures decided { Decided result (S.folder shelf.old) (root_of (map string_bytes words.now.items)) }
+    ensures answers_justified { Justified result (S.folder shelf.old) (named_by words.now.items) }
+    ensures small_decided { Decided result (S.folder shelf.old) (named_by words.now.items) }
 
-    // A fault is told exactly where a count rose; nothing is written but a report.
-    ensures shelf { ShelfCause result (S.count shelf.old) (S.count shelf.new) }
-    ensures sink { SinkCause result (K.count out.old) (K.count out.new) }
-    ensures unwritten { IsUnwritten result out.old out.new }
+    // A fault is told exactly where a count rose; nothing is written but a report; the modules stay as they are.
+    ensures read_faults { ShelfCause result (S.count shelf.old) (S.count shelf.new) }
+    ensures write_faults { SinkCause result (K.count out.old) (K.count out.new) }
+    ensures only_report_written { IsUnwritten result out.old out.new }
+    ensures modules_kept { S.folder shelf.new ≡ S.folder shelf.old }
 {
     let Some(name) = root(words.as_slice()) else {
         return Status::Words;

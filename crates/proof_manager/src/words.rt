@@ -1,3 +1,5 @@
+//! The words of the command.
+
 ghost use Rattle.std.specs.Prelude.{◌≡◌, map, option_map, string_bytes};
 ghost use Rattle.proof_manager.specs.Words.{root_of, second_of, without_ending};
 

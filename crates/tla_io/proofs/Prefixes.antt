@@ -1,7 +1,6 @@
 -- Bytes taken or written piece by piece are one prefix.
 use Rattle.std.proofs.Common.{◌≡◌, ◌+◌, ◌-◌, ◌++◌, ℕ, zero, suc, List, [], ◌∷◌, ap, sym, ◌∙◌, refl, arith, take, drop, length, append_assoc, length-drop}
 use Rattle.std.specs.Prelude.{Option, None, Some}
-use Rattle.std.specs.Io.KnownBytes.{Appends}
 use Rattle.tla_io.specs.Told.{Bytes, with_more}
 
 nothing : (m : ℕ) → take m (drop {A = ℕ} 0 []) ≡ []
@@ -31,12 +30,3 @@ take_whole (suc n) (x ∷ xs) e = ap (λ t. x ∷ t) (take_whole n xs (omega ari
 -- what a slice to the end is
 pub rest_is : (xs : List ℕ) (n : ℕ) → take (length xs - n) (drop n xs) ≡ drop n xs
 rest_is xs n = take_whole (length xs - n) (drop n xs) (sym (length-drop n xs))
-
--- pieces written one after the other
-pub appends_then : (before mid now : Option Bytes) (bytes : Bytes) (n m : ℕ) → Appends before mid (take n bytes) → Appends mid now (take m (drop n bytes)) → Appends before now (take (n + m) bytes)
-appends_then None mid now bytes n m first second = tt {0}
-appends_then (Some xs) None now bytes n m first second = absurd first
-appends_then (Some xs) (Some ys) None bytes n m first second = absurd second
-appends_then (Some xs) (Some ys) (Some zs) bytes n m first second =
-    second ∙ ap (λ (t : Bytes). t ++ take m (drop n bytes)) first ∙ append_assoc xs (take n bytes) (take m (drop n bytes))
-    ∙ ap (λ (t : Bytes). xs ++ t) (take_in_two n m bytes)

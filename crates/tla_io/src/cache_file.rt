@@ -1,4 +1,5 @@
-// Where proofs are kept from run to run.
+//! Where proofs are kept from run to run.
+
 ghost use Rattle.std.specs.Prelude.{◌≡◌, ◌≢◌, Option, List, ℕ, is_some, OnOk};
 ghost use Rattle.tla_io.specs.Causes.{HasCause, HasCacheCause};
 ghost use Rattle.tla_io.specs.Told.{ReadsFront, with_content};

@@ -1,4 +1,5 @@
-// Which calls of a device in memory fail.
+//! Which calls of a device in memory fail.
+
 ghost use Rattle.std.specs.Prelude.{◌≡◌, ◌≤◌, ◌↔◌, ◌+◌, ◌-◌, ◌^◌, min, IsTrue};
 ghost use Rattle.tla_io.specs.InMemory.{schedule, FailsNext, number_after};
 

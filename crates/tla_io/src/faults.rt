@@ -1,4 +1,4 @@
-// The faults that devices answer.
+//! The faults that devices answer.
 
 /// The device failed, and its count of faults rose in the call.
 #[derive(Clone, Copy, Debug, PartialEq, Eq)]

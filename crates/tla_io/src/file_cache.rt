@@ -1,49 +1,50 @@
-// Cache files of the current folder.
+//! Cache files of a folder.
+
 ghost use Rattle.std.specs.Prelude.{◌≡◌, ◌≢◌, ◌≤◌, ◌<◌, ◌+◌, ◌++◌, ◌↔◌, List, ℕ, is_some, OnOk, IfOk, IfSome, IsErr, IsNone, IsTrue, codes, length, take};
-ghost use Rattle.std.specs.Io.KnownBytes.{Appends};
 ghost use Rattle.tla_io.specs.Causes.{HasCause, HasCacheCause};
+ghost use Rattle.tla_io.specs.Files.{IsReplaced, ReadsFile};
 ghost use Rattle.tla_io.specs.Told.{untold, with_content};
 
 use crate::cache_file::CacheFile;
 use crate::faults::{CacheFault, Failed};
-use crate::front::{Front, read_front};
+use crate::folder::Folder;
+use crate::front::{Front, read_path};
 use std::alloc::Global;
-use std::fs;
-use std::io::{ErrorKind, Write};
 use std::marker::Model;
-use std::rt::Files;
 
-/// A device over the files of the current folder. A file that is not there reads as empty. A file is replaced by
-/// writing the one beside it, which has `.new` behind its name, and renaming that; that longer name may have 4096 bytes
-/// at most. Any error is a fault. It tells nothing of what files hold; contracts see its count of faults.
+/// A device over the files of a folder. A file that is not there reads as empty. A file is replaced by writing the one
+/// beside it, which has `.new` behind its name, and renaming that; that longer name may have 4096 bytes at most. Any error
+/// is a fault. It tells nothing to the trait's callers; its own clauses say what was read, and what the folder was asked to
+/// put and to rename.
 #[derive(Drop)]
-pub struct FileCache<'a, R: Files> {
-    rt: &'a R,
+pub struct FileCache<'a, F: Folder> {
+    folder: &'a F,
     faults: u64,
 }
 
-impl<'a, R: Files> Model for FileCache<'a, R> {
-    ghost use Rattle.std.specs.Prelude.{ℕ};
+impl<'a, F: Folder> Model for FileCache<'a, F> {
+    ghost use Rattle.tla_io.specs.Files.{Counted};
 
-    ghost Value = { ℕ };
+    ghost Value = { Counted F };
 
-    ghost view = { λ c. c.faults };
+    ghost view = { λ c. record { device = c.folder.now; faults = c.faults } };
 }
 
-impl<'a, R: Files> FileCache<'a, R> {
-    /// A device over the files that this runtime reaches.
-    pub fn new(rt: &'a R) -> FileCache<'a, R>
-        ensures { ⟦<FileCache<'a, R> as CacheFile>⟧.count result ≡ 0 }
+impl<'a, F: Folder> FileCache<'a, F> {
+    /// A device over a folder, as the runtime is one.
+    pub fn new(folder: &'a F) -> FileCache<'a, F>
+        ensures folder { result.device ≡ folder.entry.now }
+        ensures count { ⟦<FileCache<'a, F> as CacheFile>⟧.count result ≡ 0 }
     {
-        FileCache { rt, faults: 0 }
+        FileCache { folder, faults: 0 }
     }
 }
 
-// The most bytes of the name of the file beside another.
+/// The most bytes of the name of the file beside another.
 const NAME: usize = 4096;
 
-// Writes the name of the file beside this one to the front of the buffer, and answers its length; None where the buffer
-// is too short for it.
+/// Writes the name of the file beside this one to the front of the buffer, and answers its length; None where the buffer
+/// is too short for it.
 fn write_name(file: &str, buf: &mut [u8]) -> Option<usize>
     ensures long { IsNone result ↔ (length buf.old < length file.now + 4) }
     ensures name { IfSome result (λ n. take n buf.new ≡ file.now ++ codes ".new") }
@@ -58,24 +59,11 @@ fn write_name(file: &str, buf: &mut [u8]) -> Option<usize>
     Some(length + 4)
 }
 
-// Writes all the bytes, unless a write fails or takes none.
-fn is_written<W: Write>(out: &mut W, bytes: &[u8]) -> bool
-    ensures { IsTrue result → Appends (W.contents out.old) (W.contents out.new) bytes.now }
-{
-    let mut done = 0;
-    while done < bytes.len() {
-        match out.write(&bytes[done..]) {
-            Ok(0) => return false,
-            Ok(count) => done += count,
-            Err(_) => return false,
-        }
-    }
-    true
-}
-
-// Puts the bytes into the file by way of the one beside it.
-fn is_replaced<R: Files>(rt: &R, file: &str, bytes: &[u8]) -> bool
-    ensures { IsTrue result → length file.now + 4 ≤ 4096 }
+/// Puts the bytes into the file by way of the one beside it.
+fn is_replaced<F: Folder>(folder: &F, file: &str, bytes: &[u8]) -> bool
+    ensures long { IsTrue result → length file.now + 4 ≤ 4096 }
+    ensures replaced { IsTrue result
+        → IsReplaced (F.was_put folder.now) (F.was_renamed folder.now) file.now bytes.now }
 {
     let mut buf = [0u8; NAME];
     let Some(length) = write_name(file, &mut buf) else {
@@ -84,42 +72,40 @@ fn is_replaced<R: Files>(rt: &R, file: &str, bytes: &[u8]) -> bool
     let Ok(name) = str::from_utf8(&buf[..length]) else {
         return false;
     };
-    let Ok(mut out) = fs::create(rt, name) else {
-        return false;
-    };
-    is_written(&mut out, bytes) && fs::rename(rt, name, file).is_ok()
+    folder.put(name, bytes).is_ok() && folder.change_path(name, file).is_ok()
 }
 
-impl<'a, R: Files> CacheFile for FileCache<'a, R> {
+impl<'a, F: Folder> CacheFile for FileCache<'a, F> {
     ghost content = { λ _. untold };
 
-    ghost count = { λ c. c };
+    ghost count = { λ c. c.faults };
 
     fn read(&mut self, alloc: Global, file: &str, at_most: u64) -> Result<Vec<u8>, CacheFault>
-        ensures cause { HasCacheCause self.old self.new result }
+        ensures cause { HasCacheCause self.old.faults self.new.faults result }
         ensures within { IfOk result (λ bytes. length bytes.items ≤ at_most) }
+        ensures front { ReadsFile (F.held self.old.device) file.now at_most result }
     {
-        match fs::open(self.rt, file) {
-            Ok(mut opened) => match read_front(alloc, &mut opened, at_most) {
-                Front::Bytes(bytes) => return Ok(bytes),
-                Front::Memory => return Err(CacheFault::Memory),
-                Front::Failed => {}
-            },
-            Err(error) if error.kind() == ErrorKind::NotFound => return Ok(Vec::new(alloc)),
-            Err(_) => {}
+        match read_path(alloc, self.folder, file, at_most) {
+            Front::Bytes(bytes) => Ok(bytes),
+            Front::Missing => Ok(Vec::new(alloc)),
+            Front::Memory => Err(CacheFault::Memory),
+            Front::Failed => {
+                self.faults = self.faults.saturating_add(1);
+                Err(CacheFault::Failed)
+            }
         }
-        self.faults = self.faults.saturating_add(1);
-        Err(CacheFault::Failed)
     }
 
     fn replace(&mut self, file: &str, bytes: Vec<u8>) -> Result<(), Failed>
         ensures replaced { OnOk result (untold ≡ with_content untold file.now bytes.items) }
         ensures others { (name : List ℕ) → name ≢ file.now → untold name ≡ untold name }
         ensures names { (name : List ℕ) → is_some (untold name) ≡ is_some (untold name) }
-        ensures cause { HasCause self.old self.new result }
+        ensures cause { HasCause self.old.faults self.new.faults result }
         ensures long { 4096 < length file.now + 4 → IsErr result }
+        ensures put { OnOk result (IsReplaced (F.was_put self.old.device) (F.was_renamed self.old.device)
+            file.now bytes.items) }
     {
-        if is_replaced(self.rt, file, bytes.as_slice()) {
+        if is_replaced(self.folder, file, bytes.as_slice()) {
             return Ok(());
         }
         self.faults = self.faults.saturating_add(1);

@@ -1,11 +1,13 @@
-// The front of a text, in memory or in a file.
+//! The front of a text, in memory or in a file.
+
 ghost use Rattle.std.specs.Prelude.{◌≡◌, ◌≤◌, IfOk, take, length};
 ghost use Rattle.std.specs.Str.{bytes_eq};
-ghost use Rattle.tla_io.specs.Files.{IsFront, IsWithin};
+ghost use Rattle.tla_io.specs.Files.{IsFront, IsFrontAt, IsWithin};
 
+use crate::folder::Folder;
 use core_expr::Memory;
 use std::alloc::Global;
-use std::io::Read;
+use std::io::{ErrorKind, Read};
 
 /// The first bytes of a text, at most so many of them.
 pub(crate) fn front_of(alloc: Global, text: &[u8], at_most: u64) -> Result<Vec<u8>, Memory>
@@ -28,13 +30,15 @@ pub(crate) fn is_same(one: &[u8], other: &[u8]) -> bool
 pub(crate) enum Front {
     /// Its first bytes.
     Bytes(Vec<u8>),
+    /// There is no file to be read.
+    Missing,
     /// A read failed.
     Failed,
     /// Memory for the bytes was refused.
     Memory,
 }
 
-// The most bytes of one read.
+/// The most bytes of one read.
 const PIECE: usize = 4096;
 
 /// The first bytes that a reader gives, at most so many of them.
@@ -57,4 +61,16 @@ pub(crate) fn read_front<F: Read>(alloc: Global, file: &mut F, at_most: u64) -> 
         }
     }
     Front::Bytes(text)
+}
+
+/// The first bytes of the file at a path, at most so many of them.
+pub(crate) fn read_path<F: Folder>(alloc: Global, folder: &F, path: &str, at_most: u64) -> Front
+    ensures front { IsFrontAt result (F.held folder.now) path.now at_most }
+    ensures within { IsWithin result at_most }
+{
+    match folder.open_path(path) {
+        Ok(mut file) => read_front(alloc, &mut file, at_most),
+        Err(error) if error.kind() == ErrorKind::NotFound => Front::Missing,
+        Err(_) => Front::Failed,
+    }
 }

@@ -1,4 +1,5 @@
-// A shelf in memory.
+//! A shelf in memory.
+
 ghost use Rattle.std.specs.Prelude.{◌≡◌, ◌↔◌, Some, None, option_map, IsOk, IsErrOf};
 ghost use Rattle.tla_io.specs.Causes.{HasShelfCause};
 ghost use Rattle.tla_io.specs.InMemory.{schedule, FailsNext, entries_of, after_fetch};
@@ -43,7 +44,7 @@ impl MemShelf {
     }
 }
 
-// The text of the first entry with a name.
+/// The text of the first entry with a name.
 fn entry<'a>(entries: &'a [(Text, Vec<u8>)], name: &str) -> Option<&'a Vec<u8>>
     ensures { option_map (λ v. v.now.items) result ≡ folder_of (entries_of entries.entry.now) name.now }
 {
@@ -55,7 +56,7 @@ fn entry<'a>(entries: &'a [(Text, Vec<u8>)], name: &str) -> Option<&'a Vec<u8>>
     None
 }
 
-// The front of the text of the first entry with a name.
+/// The front of the text of the first entry with a name.
 fn look_up(
     alloc: Global,
     entries: &[(Text, Vec<u8>)],

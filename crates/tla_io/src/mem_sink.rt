@@ -1,4 +1,5 @@
-// A sink in memory.
+//! A sink in memory.
+
 ghost use Rattle.std.specs.Prelude.{◌≡◌, ◌<◌, ◌≤◌, ◌+◌, ◌↔◌, ◌⊎◌, Some, [], length, IfOk, IsErr};
 ghost use Rattle.tla_io.specs.Causes.{HasCause};
 ghost use Rattle.tla_io.specs.InMemory.{schedule, FailsNext, IsStuck, portion, after_write};

@@ -1,4 +1,5 @@
-// Where modules come from.
+//! Where modules come from.
+
 ghost use Rattle.std.specs.Prelude.{◌≡◌, Option, List, ℕ};
 ghost use Rattle.tla_io.specs.Causes.{HasShelfCause};
 ghost use Rattle.tla_io.specs.Told.{Folder, Fetches};

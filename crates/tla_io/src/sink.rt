@@ -1,4 +1,5 @@
-// Where a report goes.
+//! Where a report goes.
+
 ghost use Rattle.std.specs.Prelude.{◌≡◌, ◌<◌, ◌≤◌, ℕ, List, length, take, IfOk, OnOk, OnErr, Option};
 ghost use Rattle.tla_io.specs.Causes.{HasCause};
 ghost use Rattle.tla_io.specs.Told.{Takes, with_more};

@@ -1,0 +1,3 @@
+---- MODULE M ----
+CONSTANTS A, B, A
+====

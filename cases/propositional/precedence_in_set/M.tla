@@ -1,0 +1,4 @@
+---- MODULE M ----
+CONSTANTS a, b, c, P
+THEOREM {x \in a = b = c : P} OBVIOUS
+====

@@ -1,0 +1,4 @@
+---- MODULE M ----
+CONSTANT a
+THEOREM (a %% a) OBVIOUS
+====

@@ -1,0 +1,241 @@
+//! The top call over devices in memory.
+
+use core_expr::Text;
+use proof_manager::{Status, run};
+use std::alloc::Global;
+use std::process::Abort;
+use std::test::Fail;
+use tla_io::{MemCache, MemShelf, MemSink};
+
+/// One run: the module M of the shelf has this text, the calls listed fail, and the words are the program's and this one.
+#[derive(Drop)]
+struct Case<'a> {
+    text: &'a [u8],
+    word: &'a str,
+    shelf_fails: &'a [u64],
+    room: u64,
+}
+
+/// What a run leaves: its status and the bytes that the sink took.
+#[derive(Drop)]
+struct Outcome {
+    status: Status,
+    taken: Vec<u8>,
+}
+
+fn ran(alloc: Global, case: &Case) -> Result<Outcome, Fail> {
+    let mut words = Vec::new(alloc);
+    words.push(String::from_str(alloc, "tla_prove")?)?;
+    words.push(String::from_str(alloc, case.word)?)?;
+    let mut entries = Vec::new(alloc);
+    entries.push((Text::of(alloc, b"M")?, Vec::from_slice(alloc, case.text)?))?;
+    let mut shelf = MemShelf::new(entries, Vec::from_slice(alloc, case.shelf_fails)?);
+    let mut cache = MemCache::new(Text::of(alloc, b"f")?, Vec::new(alloc), Vec::new(alloc));
+    let mut sink = MemSink::new(alloc, case.room, 7, Vec::new(alloc))?;
+    let status = run(alloc, &words, &mut shelf, &mut cache, &mut sink);
+    let taken = Vec::from_slice(alloc, sink.taken())?;
+    Ok(Outcome { status, taken })
+}
+
+/// A run's exit status, what it wrote and what it says on standard error.
+fn shown(alloc: Global, case: &Case) -> Result<(u8, Vec<u8>, Text), Fail> {
+    let ran = ran(alloc, case)?;
+    let text = ran.status.text(alloc)?;
+    Ok((ran.status.code(), ran.taken, text))
+}
+
+const IMPLIES_ITSELF: &str = "---- MODULE M ----\nCONSTANT A\nTHEOREM T == A => A OBVIOUS\n====\n";
+
+const THREE: &str =
+    "---- MODULE M ----\nCONSTANTS A, B, C\nTHEOREM T == C => A \\/ C OBVIOUS\nTHEOREM U == C /\\ A => B OBVIOUS\n  THEOREM FALSE OBVIOUS\n====";
+
+/// What runs on these texts under the name M write, or say on standard error, each with its status.
+fn compare(rt: &impl Abort, alloc: Global, table: &[(&str, &str, u8, &str)]) -> Result<(), Fail> {
+    for (what, text, code, want) in table {
+        let case = Case {
+            text: text.as_bytes(),
+            word: "M",
+            shelf_fails: &[],
+            room: 400,
+        };
+        let (got_code, taken, said) = shown(alloc, &case)?;
+        assert_eq!(rt; got_code, *code, "{what}");
+        if *code < 2 {
+            assert_eq!(rt; taken.as_slice(), want.as_bytes(), "{what}");
+            assert_eq!(rt; said.bytes(), b"".as_slice(), "{what}");
+        } else {
+            assert_eq!(rt; taken.as_slice(), b"".as_slice(), "{what}");
+            assert_eq!(rt; said.bytes(), want.as_bytes(), "{what}");
+        }
+    }
+    Ok(())
+}
+
+#[test]
+fn each_report_is_of_all_theorems(rt: HostRuntime) -> Result<(), Fail> {
+    compare(
+        &rt,
+        rt.alloc(),
+        &[
+            (
+                "a formula implies itself",
+                IMPLIES_ITSELF,
+                0,
+                "module M\ntheorem T 3:1 proved\n  leaf 3:21 proved, 2 turns\n1 theorems, 1 proved\n",
+            ),
+            (
+                "no units",
+                "---- MODULE M ----\n====",
+                0,
+                "module M\n0 theorems, 0 proved\n",
+            ),
+            (
+                "implication is transitive",
+                "---- MODULE M ----\nCONSTANTS A, B, C\nTHEOREM T == (A => B) /\\ (B => C) => (A => C) OBVIOUS\n====",
+                0,
+                "module M\ntheorem T 3:1 proved\n  leaf 3:47 proved, 6 turns\n1 theorems, 1 proved\n",
+            ),
+            (
+                "an unproved theorem has a valuation",
+                "---- MODULE M ----\nCONSTANTS A, B, C\nTHEOREM T == A /\\ B => C OBVIOUS\n====",
+                1,
+                "module M\ntheorem T 3:1 unproved\n  leaf 3:26 saturated, 2 turns: A = TRUE, B = TRUE, C = FALSE\n1 theorems, 0 proved\n",
+            ),
+            (
+                "a list of conjuncts",
+                "---- MODULE M ----\nCONSTANTS A, B, C\nTHEOREM T ==\n  /\\ A\n  /\\ B \\/ C\n  OBVIOUS\n====",
+                1,
+                "module M\ntheorem T 3:1 unproved\n  leaf 6:3 saturated, 1 turns: A = FALSE, B = FALSE, C = FALSE\n1 theorems, 0 proved\n",
+            ),
+            (
+                "a proved theorem, one with a valuation and one without a name and without symbols",
+                THREE,
+                1,
+                "module M\ntheorem T 3:1 proved\n  leaf 3:26 proved, 3 turns\ntheorem U 4:1 unproved\n  leaf 4:26 saturated, 2 turns: C = TRUE, A = TRUE, B = FALSE\ntheorem - 5:3 unproved\n  leaf 5:17 saturated, 0 turns: \n3 theorems, 1 proved\n",
+            ),
+        ],
+    )
+}
+
+#[test]
+fn each_refusal_has_its_place_and_kind(rt: HostRuntime) -> Result<(), Fail> {
+    compare(
+        &rt,
+        rt.alloc(),
+        &[
+            ("no header", "hello", 3, "refused M 1:1 NoModule"),
+            ("no bytes", "", 3, "refused M 1:1 NoModule"),
+            (
+                "a form that is not built",
+                "---- MODULE M ----\nCONSTANTS A, B\nTHEOREM A /\\ B => A OBVIOUS\nTHEOREM A = B OBVIOUS\n====",
+                3,
+                "refused M 4:11 Unsupported form",
+            ),
+            (
+                "implication does not associate",
+                "---- MODULE M ----\nCONSTANTS A, B\nTHEOREM A => B => A OBVIOUS\n====",
+                3,
+                "refused M 3:16 Precedence",
+            ),
+            (
+                "a conjunct beside its list",
+                "---- MODULE M ----\nCONSTANTS A, B, C\nTHEOREM T ==\n  /\\ A\n /\\ B \\/ C\n  OBVIOUS\n====",
+                3,
+                "refused M 5:7 Precedence",
+            ),
+            (
+                "union and intersection",
+                "---- MODULE M ----\nCONSTANTS a, b, c\nTHEOREM a \\cup b \\cap c = a OBVIOUS\n====",
+                3,
+                "refused M 3:18 Precedence",
+            ),
+            (
+                "union twice is read",
+                "---- MODULE M ----\nCONSTANTS a, b, c\nTHEOREM a \\cup b \\cup c = a OBVIOUS\n====",
+                3,
+                "refused M 3:11 Unsupported form",
+            ),
+            (
+                "a number that is too large",
+                "---- MODULE M ----\nTHEOREM T == 340282366920938463463374607431768211456 = 1 OBVIOUS\n====",
+                3,
+                "refused M 2:14 NumberTooLarge",
+            ),
+        ],
+    )
+}
+
+/// A theorem in so many parentheses.
+fn in_parentheses(alloc: Global, count: u32) -> Result<String, Fail> {
+    let mut text = String::from_str(alloc, "---- MODULE M ----\nCONSTANT A\nTHEOREM ")?;
+    for _ in 0..count {
+        text.push_str("(")?;
+    }
+    text.push_str("A")?;
+    for _ in 0..count {
+        text.push_str(")")?;
+    }
+    text.push_str(" OBVIOUS\n====\n")?;
+    Ok(text)
+}
+
+#[test]
+fn two_hundred_parentheses_are_read(rt: HostRuntime) -> Result<(), Fail> {
+    let read = in_parentheses(rt.alloc(), 200)?;
+    let refused = in_parentheses(rt.alloc(), 201)?;
+    compare(
+        &rt,
+        rt.alloc(),
+        &[
+            (
+                "200 deep",
+                read.as_str(),
+                1,
+                "module M\ntheorem - 3:1 unproved\n  leaf 3:411 saturated, 0 turns: A = FALSE\n1 theorems, 0 proved\n",
+            ),
+            ("201 deep", refused.as_str(), 3, "refused M 3:209 TooDeep"),
+        ],
+    )
+}
+
+#[test]
+fn devices_and_words_decide(rt: HostRuntime) -> Result<(), Fail> {
+    let table: [(&str, &[u64], u64, u8, &[u8], &[u8]); 6] = [
+        ("M.tla", &[], 10, 7, b"module M\nt", b"write fault"),
+        ("N", &[], 200, 4, b"", b"not found N"),
+        ("M", &[0], 200, 5, b"", b"read fault"),
+        ("M.tla.tla", &[], 200, 2, b"", b"words"),
+        ("MODULE", &[], 200, 2, b"", b"words"),
+        ("", &[], 200, 2, b"", b"words"),
+    ];
+    for (word, shelf_fails, room, code, taken, text) in &table {
+        let case = Case {
+            text: IMPLIES_ITSELF.as_bytes(),
+            word: *word,
+            shelf_fails: *shelf_fails,
+            room: *room,
+        };
+        let (got_code, got_taken, got_text) = shown(rt.alloc(), &case)?;
+        assert_eq!(rt; got_code, *code, "{word}");
+        assert_eq!(rt; got_taken.as_slice(), *taken, "{word}");
+        assert_eq!(rt; got_text.bytes(), *text, "{word}");
+    }
+    Ok(())
+}
+
+#[test]
+fn other_numbers_of_words_are_unlawful(rt: HostRuntime) -> Result<(), Fail> {
+    let alloc = rt.alloc();
+    let mut words = Vec::new(alloc);
+    for _ in 0..4u8 {
+        if words.len() != 2 {
+            let mut shelf = MemShelf::new(Vec::new(alloc), Vec::new(alloc));
+            let mut cache = MemCache::new(Text::of(alloc, b"f")?, Vec::new(alloc), Vec::new(alloc));
+            let mut sink = MemSink::new(alloc, 10, 10, Vec::new(alloc))?;
+            let status = run(alloc, &words, &mut shelf, &mut cache, &mut sink);
+            assert_eq!(rt; status.code(), 2);
+        }
+        words.push(String::from_str(alloc, "M")?)?;
+    }
+    Ok(())
+}
