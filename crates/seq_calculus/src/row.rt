@@ -181,7 +181,8 @@ pub(crate) fn image(alloc: Global, t: &Expr, a: &Expr, e: &Expr) -> Result<Expr,
     let whole = Expr::ranged(alloc, Binder::Image, a.copy(alloc)?, e.copy(alloc)?)?;
     let equal = Expr::binary(alloc, Head::Eq, t.lift(alloc, 1)?, e.copy(alloc)?)?;
     let body = Expr::binary(alloc, Head::And, inside(alloc, a)?, equal)?;
-    membership(alloc, t, whole, Expr::quantified(alloc, Binder::Ex, body)?)
+    let meaning = Expr::quantified(alloc, Binder::Ex, body)?;
+    membership(alloc, t, whole, meaning)
 }
 
 /// `p => (IF p THEN a ELSE b) = a`.
