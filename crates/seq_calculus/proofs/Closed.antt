@@ -1,33 +1,15 @@
 -- Closed instances.
-use Rattle.std.specs.Prelude.{◌≡◌, ℕ, suc, ◌<◌, Bool, true, false, nat_lt, Option, Some, None, List, ◌∷◌}
-use Rattle.std.proofs.Common.{refl, ap, sym, ◌∙◌, arith, subst}
-use Rattle.std.proofs.lemmas.Bool.Decides.{nat_tests}
-use Rattle.core_expr.specs.Tree.{Tree, Parts}
-use Rattle.core_expr.specs.Tree.Tree.{bound, app, node, bind}
-use Rattle.core_expr.specs.Tree.Parts.{end, part}
-use Rattle.core_expr.specs.Put.{IsScoped, AreScoped}
-use Rattle.core_expr.specs.Terms.{is_scoped, are_scoped}
+use Rattle.std.specs.Prelude.{◌≡◌, ℕ, Bool, true, false, Option, Some, None, List}
+use Rattle.std.proofs.Common.{refl, ap, ◌∙◌, subst}
+use Rattle.core_expr.specs.Tree.{Tree}
+use Rattle.core_expr.specs.Put.{IsScoped}
+use Rattle.core_expr.specs.Terms.{is_scoped}
+use Rattle.core_expr.proofs.Equal.{true-scoped}
 use Rattle.seq_calculus.specs.Schemas.{instance_of, if_closed, closed_instance}
-use Rattle.seq_calculus.specs.Calculus.{Rule, AllClosed, schema_premise, Proof, Proofs, Correct, AreCorrect}
+use Rattle.seq_calculus.specs.Calculus.{schema_premise, Proofs, Correct, AreCorrect}
 use Rattle.seq_calculus.specs.Calculus.Rule.{Schema}
 use Rattle.seq_calculus.specs.Calculus.Proof.{step}
 use Rattle.seq_calculus.specs.Calculus.Proofs.{no_more, more}
-
-both-true : (x y : Bool) → x ≡ true → y ≡ true → elim x [ true ↦ y | false ↦ false ] ≡ true
-both-true true y p q = q
-both-true false y p q = p
-
--- the test of scopes answers yes where it should
-mutual
-  pub is_scoped-true : (n : ℕ) (e : Tree) → IsScoped n e → is_scoped n e ≡ true
-  is_scoped-true n (bound i) h = grind (arith, nat_tests)
-  is_scoped-true n (app f ps) h = are_scoped-true n ps h
-  is_scoped-true n (node k ns ps) h = are_scoped-true n ps h
-  is_scoped-true n (bind b ps e) h = both-true (are_scoped n ps) (is_scoped (suc n) e) (are_scoped-true n ps h.0) (is_scoped-true (suc n) e h.1)
-
-  pub are_scoped-true : (n : ℕ) (ps : Parts) → AreScoped n ps → are_scoped n ps ≡ true
-  are_scoped-true n end h = refl
-  are_scoped-true n (part e ps) h = both-true (is_scoped n e) (are_scoped n ps) (is_scoped-true n e h.0) (are_scoped-true n ps h.1)
 
 if_closed-true : (i : Tree) (b : Bool) → b ≡ true → elim b [ true ↦ Some i | false ↦ None ] ≡ Some i
 if_closed-true i true h = refl
@@ -35,7 +17,7 @@ if_closed-true i false h = cc
 
 -- a formula that is closed is kept
 pub if_closed-some : (o : Option Tree) (i : Tree) → o ≡ Some i → IsScoped 0 i → if_closed o ≡ Some i
-if_closed-some o i e h = ap if_closed e ∙ if_closed-true i (is_scoped 0 i) (is_scoped-true 0 i h)
+if_closed-some o i e h = ap if_closed e ∙ if_closed-true i (is_scoped 0 i) (true-scoped 0 i h)
 
 -- what a step of a schema brings in is closed
 first_closed : (ps : Proofs) (i : Tree) (g d : List Tree) → AreCorrect ps (schema_premise (Some i) g d) → IsScoped 0 i

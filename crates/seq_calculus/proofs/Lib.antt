@@ -2,11 +2,9 @@ pub mod RowLaws
 pub mod Renamed
 pub mod Closed
 pub mod Examples
-pub mod Made
 pub mod Named
 pub mod Fits
 pub mod Listed
 pub mod Tuples
 pub mod Lone
 pub mod Dispatch
-pub mod Counted

@@ -4,8 +4,6 @@ use Rattle.std.proofs.Common.{refl, ap, sym, ◌∙◌, arith, subst, get_or}
 use Rattle.std.proofs.lemmas.Bool.{false≢true}
 use Rattle.std.proofs.lemmas.List.{take_more, take_all, length-drop}
 use Rattle.core_expr.specs.Tree.{Tree, eq_}
-use Rattle.core_expr.specs.Put.{IsScoped}
-use Rattle.seq_calculus.specs.Calculus.{AllClosed}
 use Rattle.seq_calculus.specs.Schemas.{join_from, join, equals_each, equal_pairs}
 
 -- what a test that answers no tells
@@ -22,24 +20,6 @@ take_step xs i x h e = take_more xs i x h ∙ ap (λ (y : Tree). take i xs ++ y 
 -- what follows the first n
 pub slice_rest : (n : ℕ) (ps : List Tree) → take (length ps - n) (drop n ps) ≡ drop n ps
 slice_rest n ps = take_all (length ps - n) (drop n ps) (omega (arith, length-drop n ps))
-
-AllClosed-more : (xs : List Tree) (x : Tree) → AllClosed xs → IsScoped 0 x → AllClosed (xs ++ x ∷ [])
-AllClosed-more [] x h k = (k, tt)
-AllClosed-more (y ∷ xs) x h k = (h.0, AllClosed-more xs x h.1 k)
-
-pub closed_step : (xs : List Tree) (i : ℕ) (x : Tree) → i < length xs → x ≡ get_or xs i x → AllClosed (take i xs) → IsScoped 0 x → AllClosed (take (i + 1) xs)
-closed_step xs i x h e k c = subst AllClosed (sym (take_step xs i x h e)) (AllClosed-more (take i xs) x k c)
-
-closed_at : (xs : List Tree) (i : ℕ) (d : Tree) → i < length xs → AllClosed xs → IsScoped 0 (get_or xs i d)
-closed_at [] i d h k = absurd (omega arith)
-closed_at (x ∷ xs) zero d h k = k.0
-closed_at (x ∷ xs) (suc i) d h k = closed_at xs i d (omega arith) k.1
-
-pub closed_item : (xs : List Tree) (i : ℕ) (x : Tree) → i < length xs → x ≡ get_or xs i x → AllClosed xs → IsScoped 0 x
-closed_item xs i x h e k = subst (IsScoped 0) (sym e) (closed_at xs i x h k)
-
-pub closed_all : (xs : List Tree) (n : ℕ) → length xs ≤ n → AllClosed (take n xs) → AllClosed xs
-closed_all xs n h k = subst AllClosed (take_all n xs h) k
 
 equals_each-more : (t : Tree) (xs : List Tree) (x : Tree) → equals_each t (xs ++ x ∷ []) ≡ equals_each t xs ++ eq_ t x ∷ []
 equals_each-more t [] x = refl

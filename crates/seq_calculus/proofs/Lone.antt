@@ -150,3 +150,10 @@ apart_not l m e = (λ k. absurd (false≢true k), λ k. absurd (false≢true (sy
 
 pub heads_are : (l m : Tree) (h k : ℕ) (b v : Bool) → h ≡ lone_head l → k ≡ lone_head m → b ≡ are_heads_literal h k → b ≡ v → are_heads_literal (lone_head l) (lone_head m) ≡ v
 heads_are l m h k b v p q e f = (λ i. are_heads_literal (sym p i) (sym q i)) ∙ sym e ∙ f
+
+pub not_apart : (l m : Tree) → ¬ (are_apart l m ≡ true) → are_apart l m ≡ false
+not_apart l m n = go (are_apart l m) n
+  where
+    go : (b : Bool) → ¬ (b ≡ true) → b ≡ false
+    go true k = absurd (k refl)
+    go false k = refl

@@ -9,7 +9,7 @@ use Rattle.core_expr.specs.Tree.Tree.{bound, app, node, bind}
 use Rattle.core_expr.specs.Tree.Parts.{end, part}
 use Rattle.core_expr.specs.Put.{inst, shift, sub, subs}
 use Rattle.core_expr.proofs.Laws.{sub-inst, sub-shift}
-use Rattle.seq_calculus.specs.Schemas.{parts, join_from, join, equals_each, equal_pairs, nth, about_nth, are_apart, unnumbered, row1, row2, row3, row4, row5, row6, row7, row8, row9, row10, row11, row12, row13, row14, row15, row16, row17, row18, row19, row20, row21, row22, no_row, Row, rows, row_at, instance_of}
+use Rattle.seq_calculus.specs.Schemas.{parts, join_from, join, equals_each, equal_pairs, nth, about_nth, are_apart, unnumbered, of_one, of_two, of_three, of_four, about_cup, about_cap, about_difference, about_power, about_union, about_filter, about_image, about_boolean, about_subset, about_extensionality, about_choice, about_then, about_otherwise, about_domain, about_application, about_functions, about_function_set, about_except, row1, row20, row21, row22, no_row, Row, rows, row_at, instance_of}
 
 abbrev lift : (Tree → Tree) → Option Tree → Option Tree
 lift f None = None
@@ -40,82 +40,29 @@ module _ (s : Sym → Option Tree) where
   map-equals_each t [] = refl
   map-equals_each t (e ∷ es) = ap (λ l. eq_ (sub s t) (sub s e) ∷ l) (map-equals_each t es)
 
+  abbrev Commutes : Row → Type 0
+  Commutes r = (z : ℕ) (ps : List Tree) (i : Tree) → r z ps ≡ Some i → r z (map (sub s) ps) ≡ Some (sub s i)
+
+  of_one-sub : (f : Tree → Tree) → ((a : Tree) → f (sub s a) ≡ sub s (f a)) → Commutes (of_one f)
+  of_one-sub f h z (a ∷ []) i e = ap Some (h a) ∙ ap (lift (sub s)) e
+  of_one-sub f h z _ i e = cc
+
+  of_two-sub : (f : Tree → Tree → Tree) → ((a b : Tree) → f (sub s a) (sub s b) ≡ sub s (f a b)) → Commutes (of_two f)
+  of_two-sub f h z (a ∷ b ∷ []) i e = ap Some (h a b) ∙ ap (lift (sub s)) e
+  of_two-sub f h z _ i e = cc
+
+  of_three-sub : (f : Tree → Tree → Tree → Tree) → ((a b c : Tree) → f (sub s a) (sub s b) (sub s c) ≡ sub s (f a b c)) → Commutes (of_three f)
+  of_three-sub f h z (a ∷ b ∷ c ∷ []) i e = ap Some (h a b c) ∙ ap (lift (sub s)) e
+  of_three-sub f h z _ i e = cc
+
+  functions-sub : Commutes (of_four about_functions)
+  functions-sub z (a ∷ b ∷ c ∷ d ∷ []) i e = rw (← sub-shift s 0 1 a) (ap (lift (sub s)) e)
+  functions-sub z _ i e = cc
+
   row1-sub : (z : ℕ) (ps : List Tree) (i : Tree) → row1 z ps ≡ Some i → row1 z (map (sub s) ps) ≡ Some (sub s i)
   row1-sub z [] i e = cc
   row1-sub z (t ∷ es) i e =
       rw (subs-parts es, ← map-equals_each t es, ← sub-join_or (equals_each t es)) (ap (lift (sub s)) e)
-
-  row2-sub : (z : ℕ) (ps : List Tree) (i : Tree) → row2 z ps ≡ Some i → row2 z (map (sub s) ps) ≡ Some (sub s i)
-  row2-sub z (t ∷ a ∷ b ∷ []) i e = ap (lift (sub s)) e
-  row2-sub z _ i e = cc
-
-  row7-sub : (z : ℕ) (ps : List Tree) (i : Tree) → row7 z ps ≡ Some i → row7 z (map (sub s) ps) ≡ Some (sub s i)
-  row7-sub z (t ∷ a ∷ p ∷ []) i e = rw (← sub-inst s p t) (ap (lift (sub s)) e)
-  row7-sub z _ i e = cc
-
-  row3-sub : (z : ℕ) (ps : List Tree) (i : Tree) → row3 z ps ≡ Some i → row3 z (map (sub s) ps) ≡ Some (sub s i)
-  row3-sub z (t ∷ a ∷ b ∷ []) i e = ap (lift (sub s)) e
-  row3-sub z _ i e = cc
-
-  row4-sub : (z : ℕ) (ps : List Tree) (i : Tree) → row4 z ps ≡ Some i → row4 z (map (sub s) ps) ≡ Some (sub s i)
-  row4-sub z (t ∷ a ∷ b ∷ []) i e = ap (lift (sub s)) e
-  row4-sub z _ i e = cc
-
-  row5-sub : (z : ℕ) (ps : List Tree) (i : Tree) → row5 z ps ≡ Some i → row5 z (map (sub s) ps) ≡ Some (sub s i)
-  row5-sub z (t ∷ a ∷ []) i e = ap (lift (sub s)) e
-  row5-sub z _ i e = cc
-
-  row6-sub : (z : ℕ) (ps : List Tree) (i : Tree) → row6 z ps ≡ Some i → row6 z (map (sub s) ps) ≡ Some (sub s i)
-  row6-sub z (t ∷ a ∷ []) i e = rw (← sub-shift s 0 1 a, ← sub-shift s 0 1 t) (ap (lift (sub s)) e)
-  row6-sub z _ i e = cc
-
-  row8-sub : (z : ℕ) (ps : List Tree) (i : Tree) → row8 z ps ≡ Some i → row8 z (map (sub s) ps) ≡ Some (sub s i)
-  row8-sub z (t ∷ a ∷ e1 ∷ []) i e = rw (← sub-shift s 0 1 a, ← sub-shift s 0 1 t) (ap (lift (sub s)) e)
-  row8-sub z _ i e = cc
-
-  row9-sub : (z : ℕ) (ps : List Tree) (i : Tree) → row9 z ps ≡ Some i → row9 z (map (sub s) ps) ≡ Some (sub s i)
-  row9-sub z (t ∷ []) i e = ap (lift (sub s)) e
-  row9-sub z _ i e = cc
-
-  row10-sub : (z : ℕ) (ps : List Tree) (i : Tree) → row10 z ps ≡ Some i → row10 z (map (sub s) ps) ≡ Some (sub s i)
-  row10-sub z (a ∷ b ∷ []) i e = rw (← sub-shift s 0 1 a, ← sub-shift s 0 1 b) (ap (lift (sub s)) e)
-  row10-sub z _ i e = cc
-
-  row11-sub : (z : ℕ) (ps : List Tree) (i : Tree) → row11 z ps ≡ Some i → row11 z (map (sub s) ps) ≡ Some (sub s i)
-  row11-sub z (a ∷ b ∷ []) i e = rw (← sub-shift s 0 1 a, ← sub-shift s 0 1 b) (ap (lift (sub s)) e)
-  row11-sub z _ i e = cc
-
-  row13-sub : (z : ℕ) (ps : List Tree) (i : Tree) → row13 z ps ≡ Some i → row13 z (map (sub s) ps) ≡ Some (sub s i)
-  row13-sub z (p ∷ a ∷ b ∷ []) i e = ap (lift (sub s)) e
-  row13-sub z _ i e = cc
-
-  row14-sub : (z : ℕ) (ps : List Tree) (i : Tree) → row14 z ps ≡ Some i → row14 z (map (sub s) ps) ≡ Some (sub s i)
-  row14-sub z (p ∷ a ∷ b ∷ []) i e = ap (lift (sub s)) e
-  row14-sub z _ i e = cc
-
-  row15-sub : (z : ℕ) (ps : List Tree) (i : Tree) → row15 z ps ≡ Some i → row15 z (map (sub s) ps) ≡ Some (sub s i)
-  row15-sub z (s1 ∷ e1 ∷ []) i e = ap (lift (sub s)) e
-  row15-sub z _ i e = cc
-
-  row17-sub : (z : ℕ) (ps : List Tree) (i : Tree) → row17 z ps ≡ Some i → row17 z (map (sub s) ps) ≡ Some (sub s i)
-  row17-sub z (s1 ∷ d ∷ t ∷ e1 ∷ []) i e = rw (← sub-shift s 0 1 s1) (ap (lift (sub s)) e)
-  row17-sub z _ i e = cc
-
-  row18-sub : (z : ℕ) (ps : List Tree) (i : Tree) → row18 z ps ≡ Some i → row18 z (map (sub s) ps) ≡ Some (sub s i)
-  row18-sub z (f ∷ s1 ∷ t ∷ []) i e = rw (← sub-shift s 0 1 f, ← sub-shift s 0 1 s1, ← sub-shift s 0 1 t) (ap (lift (sub s)) e)
-  row18-sub z _ i e = cc
-
-  row19-sub : (z : ℕ) (ps : List Tree) (i : Tree) → row19 z ps ≡ Some i → row19 z (map (sub s) ps) ≡ Some (sub s i)
-  row19-sub z (f ∷ a ∷ b ∷ []) i e = rw (← sub-shift s 0 1 f, ← sub-shift s 0 1 a, ← sub-shift s 0 1 b) (ap (lift (sub s)) e)
-  row19-sub z _ i e = cc
-
-  row12-sub : (z : ℕ) (ps : List Tree) (i : Tree) → row12 z ps ≡ Some i → row12 z (map (sub s) ps) ≡ Some (sub s i)
-  row12-sub z (p ∷ []) i e = rw (← sub-inst s p (choose_ p)) (ap (lift (sub s)) e)
-  row12-sub z _ i e = cc
-
-  row16-sub : (z : ℕ) (ps : List Tree) (i : Tree) → row16 z ps ≡ Some i → row16 z (map (sub s) ps) ≡ Some (sub s i)
-  row16-sub z (a ∷ s1 ∷ e1 ∷ []) i e = rw (← sub-inst s e1 a) (ap (lift (sub s)) e)
-  row16-sub z _ i e = cc
 
   map-equal_pairs : (as' bs : List Tree) → map (sub s) (equal_pairs as' bs) ≡ equal_pairs (map (sub s) as') (map (sub s) bs)
   map-equal_pairs [] bs = refl
@@ -160,9 +107,6 @@ module _ (s : Sym → Option Tree) where
   no_row-sub : (z : ℕ) (ps : List Tree) (i : Tree) → no_row z ps ≡ Some i → no_row z (map (sub s) ps) ≡ Some (sub s i)
   no_row-sub z ps i e = cc
 
-  abbrev Commutes : Row → Type 0
-  Commutes r = (z : ℕ) (ps : List Tree) (i : Tree) → r z ps ≡ Some i → r z (map (sub s) ps) ≡ Some (sub s i)
-
   unnumbered-sub : (r : Row) → Commutes r → Commutes (unnumbered r)
   unnumbered-sub r h zero ps i e = h 0 ps i e
   unnumbered-sub r h (suc z) ps i e = cc
@@ -176,8 +120,79 @@ module _ (s : Sym → Option Tree) where
   row_at-sub (r ∷ rs) h zero z ps i e = h.0 z ps i e
   row_at-sub (r ∷ rs) h (suc k) z ps i e = row_at-sub rs h.1 k z ps i e
 
+  -- each row of the table
+  rows-sub : EachCommutes rows
+  rows-sub = (
+    no_row-sub,
+    (
+      unnumbered-sub row1 row1-sub,
+      (
+        three about_cup (λ t a b. refl),
+        (
+          three about_cap (λ t a b. refl),
+          (
+            three about_difference (λ t a b. refl),
+            (
+              two about_power (λ t a. refl),
+              (
+                two about_union (λ t a. rw (← sub-shift s 0 1 a, ← sub-shift s 0 1 t)),
+                (
+                  three about_filter (λ t a p. rw (← sub-inst s p t)),
+                  (
+                    three about_image (λ t a e. rw (← sub-shift s 0 1 a, ← sub-shift s 0 1 t)),
+                    (
+                      one about_boolean (λ t. refl),
+                      (
+                        two about_subset (λ a b. rw (← sub-shift s 0 1 a, ← sub-shift s 0 1 b)),
+                        (
+                          two about_extensionality (λ a b. rw (← sub-shift s 0 1 a, ← sub-shift s 0 1 b)),
+                          (
+                            one about_choice (λ p. rw (← sub-inst s p (choose_ p))),
+                            (
+                              three about_then (λ p a b. refl),
+                              (
+                                three about_otherwise (λ p a b. refl),
+                                (
+                                  two about_domain (λ d e. refl),
+                                  (
+                                    three about_application (λ a d e. rw (← sub-inst s e a)),
+                                    (
+                                      unnumbered-sub (of_four about_functions) functions-sub,
+                                      (
+                                        three about_function_set (λ f d t. rw (← sub-shift s 0 1 f, ← sub-shift s 0 1 d, ← sub-shift s 0 1 t)),
+                                        (
+                                          three about_except (λ f a b. rw (← sub-shift s 0 1 f, ← sub-shift s 0 1 a, ← sub-shift s 0 1 b)),
+                                          (row20-sub, (row21-sub, (unnumbered-sub row22 row22-sub, tt))),
+                                        ),
+                                      ),
+                                    ),
+                                  ),
+                                ),
+                              ),
+                            ),
+                          ),
+                        ),
+                      ),
+                    ),
+                  ),
+                ),
+              ),
+            ),
+          ),
+        ),
+      ),
+    ),
+  )
+    where
+      one : (f : Tree → Tree) → ((a : Tree) → f (sub s a) ≡ sub s (f a)) → Commutes (unnumbered (of_one f))
+      one f h = unnumbered-sub (of_one f) (of_one-sub f h)
+
+      two : (f : Tree → Tree → Tree) → ((a b : Tree) → f (sub s a) (sub s b) ≡ sub s (f a b)) → Commutes (unnumbered (of_two f))
+      two f h = unnumbered-sub (of_two f) (of_two-sub f h)
+
+      three : (f : Tree → Tree → Tree → Tree) → ((a b c : Tree) → f (sub s a) (sub s b) (sub s c) ≡ sub s (f a b c)) → Commutes (unnumbered (of_three f))
+      three f h = unnumbered-sub (of_three f) (of_three-sub f h)
+
   -- an instance of the substituted parameters
   pub instance_of-sub : (k z : ℕ) (ps : List Tree) (i : Tree) → instance_of k z ps ≡ Some i → instance_of k z (map (sub s) ps) ≡ Some (sub s i)
-  instance_of-sub =
-      row_at-sub rows
-      (no_row-sub, (unnumbered-sub row1 row1-sub, (unnumbered-sub row2 row2-sub, (unnumbered-sub row3 row3-sub, (unnumbered-sub row4 row4-sub, (unnumbered-sub row5 row5-sub, (unnumbered-sub row6 row6-sub, (unnumbered-sub row7 row7-sub, (unnumbered-sub row8 row8-sub, (unnumbered-sub row9 row9-sub, (unnumbered-sub row10 row10-sub, (unnumbered-sub row11 row11-sub, (unnumbered-sub row12 row12-sub, (unnumbered-sub row13 row13-sub, (unnumbered-sub row14 row14-sub, (unnumbered-sub row15 row15-sub, (unnumbered-sub row16 row16-sub, (unnumbered-sub row17 row17-sub, (unnumbered-sub row18 row18-sub, (unnumbered-sub row19 row19-sub, (row20-sub, (row21-sub, (unnumbered-sub row22 row22-sub, tt)))))))))))))))))))))))
+  instance_of-sub = row_at-sub rows rows-sub

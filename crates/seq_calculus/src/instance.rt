@@ -1,73 +1,45 @@
-ghost use Rattle.std.specs.Prelude.{◌≡◌, ◌↔◌, ◌∷◌, [], IsTrue, IfOk};
+//! The closed instance of a schema, by its number.
+ghost use Rattle.std.specs.Prelude.{◌≡◌, ◌↔◌, Some, IsTrue, IfOk};
 ghost use Rattle.core_expr.specs.Put.{IsScoped};
-ghost use Rattle.seq_calculus.specs.Schemas.{if_closed, closed_instance, row17, row22};
-ghost use Rattle.seq_calculus.specs.Families.{row_of, row_of_one, row_of_two, row_of_three, depth_of_one, depth_of_two, depth_of_three};
+ghost use Rattle.seq_calculus.specs.Schemas.{if_closed, closed_instance, of_one, of_two, of_three, of_four, about_functions, row22};
+ghost use Rattle.seq_calculus.specs.Families.{row_of, formula_of_one, formula_of_two, formula_of_three};
 
 use crate::literal::literals;
 use crate::row::{
     application, boolean, choice, difference, domain, except, extensionality, filter,
-    function_equality, function_set, image, joined, otherwise, power, subset, then, union,
+    function_equality, function_set, if_closed, image, joined, otherwise, power, subset, then,
+    union,
 };
 use crate::schema::{OfOne, OfThree, OfTwo, Schema, schema_at};
 use crate::tuple::{enumeration, tuple_entry, tuple_equality};
 use core_expr::{Expr, Head, Memory};
 use std::alloc::Global;
 
-/// How many loose variables the parameter of such a schema may have.
-fn one_depth(schema: OfOne) -> u64
-    ensures { result ≡ depth_of_one schema }
+/// Whether the first is closed, and the second has at most one loose variable.
+fn are_two_scoped(a: &Expr, b: &Expr) -> bool
+    ensures { IsTrue result ↔ (IsScoped 0 a.now × IsScoped 1 b.now) }
 {
-    match schema {
-        OfOne::Boolean => 0,
-        OfOne::Choice => 1,
-    }
+    a.is_closed() && b.is_scoped(1)
 }
 
-/// How many loose variables the last parameter of such a schema may have.
-fn two_depth(schema: OfTwo) -> u64
-    ensures { result ≡ depth_of_two schema }
+/// Whether the first two are closed, and the third has at most one loose variable.
+fn are_three_scoped(a: &Expr, b: &Expr, c: &Expr) -> bool
+    ensures { IsTrue result ↔ (IsScoped 0 a.now × IsScoped 0 b.now × IsScoped 1 c.now) }
 {
-    match schema {
-        OfTwo::Domain => 1,
-        _ => 0,
-    }
-}
-
-/// How many loose variables the last parameter of such a schema may have.
-fn three_depth(schema: OfThree) -> u64
-    ensures { result ≡ depth_of_three schema }
-{
-    match schema {
-        OfThree::Filter | OfThree::Image | OfThree::Application => 1,
-        _ => 0,
-    }
-}
-
-/// Whether these are closed but for the last, which may have so many loose variables.
-fn are_two_scoped(a: &Expr, b: &Expr, depth: u64) -> bool
-    ensures { IsTrue result ↔ (IsScoped 0 a.now × IsScoped depth b.now) }
-{
-    a.is_closed() && b.is_scoped(depth)
-}
-
-/// Whether these are closed but for the last, which may have so many loose variables.
-fn are_three_scoped(a: &Expr, b: &Expr, c: &Expr, depth: u64) -> bool
-    ensures { IsTrue result ↔ (IsScoped 0 a.now × IsScoped 0 b.now × IsScoped depth c.now) }
-{
-    a.is_closed() && b.is_closed() && c.is_scoped(depth)
+    a.is_closed() && b.is_closed() && c.is_scoped(1)
 }
 
 /// Whether the first and the third are closed, and the others have at most one loose variable.
 fn are_four_scoped(s: &Expr, d: &Expr, t: &Expr, e: &Expr) -> bool
     ensures { IsTrue result ↔ (IsScoped 0 s.now × IsScoped 1 d.now × IsScoped 0 t.now × IsScoped 1 e.now) }
 {
-    are_two_scoped(s, d, 1) && are_two_scoped(t, e, 1)
+    are_two_scoped(s, d) && are_two_scoped(t, e)
 }
 
-/// The instance of such a schema for a parameter that fits.
+/// The formula of such a schema.
 fn build_one(alloc: Global, schema: OfOne, a: &Expr) -> Result<Expr, Memory>
-    requires { IsScoped (depth_of_one schema) a.now }
-    ensures { IfOk result (λ e. if_closed (row_of_one schema 0 (a.now ∷ [])) ≡ Some e) }
+    requires { IsScoped 1 a.now }
+    ensures { IfOk result (λ e. e ≡ formula_of_one schema a.now) }
 {
     match schema {
         OfOne::Boolean => boolean(alloc, a),
@@ -75,21 +47,19 @@ fn build_one(alloc: Global, schema: OfOne, a: &Expr) -> Result<Expr, Memory>
     }
 }
 
-/// The closed instance of such a schema.
-fn of_one(alloc: Global, schema: OfOne, a: &Expr) -> Result<Option<Expr>, Memory>
-    ensures { IfOk result (λ o. o ≡ if_closed (row_of_one schema 0 (a.now ∷ []))) }
+/// The closed formula of such a schema.
+fn closed_one(alloc: Global, schema: OfOne, a: &Expr) -> Result<Option<Expr>, Memory>
+    ensures { IfOk result (λ o. o ≡ if_closed (Some (formula_of_one schema a.now))) }
 {
-    if !a.is_scoped(one_depth(schema)) {
+    if !a.is_scoped(1) {
         return Ok(None);
     }
-    Ok(Some(build_one(alloc, schema, a)?))
+    Ok(if_closed(build_one(alloc, schema, a)?))
 }
 
-/// The instance of such a schema for parameters that fit.
+/// The formula of such a schema.
 fn build_two(alloc: Global, schema: OfTwo, a: &Expr, b: &Expr) -> Result<Expr, Memory>
-    requires first { IsScoped 0 a.now }
-    requires second { IsScoped (depth_of_two schema) b.now }
-    ensures { IfOk result (λ e. if_closed (row_of_two schema 0 (a.now ∷ b.now ∷ [])) ≡ Some e) }
+    ensures { IfOk result (λ e. e ≡ formula_of_two schema a.now b.now) }
 {
     match schema {
         OfTwo::Power => power(alloc, a, b),
@@ -100,22 +70,21 @@ fn build_two(alloc: Global, schema: OfTwo, a: &Expr, b: &Expr) -> Result<Expr, M
     }
 }
 
-/// The closed instance of such a schema.
-fn of_two(alloc: Global, schema: OfTwo, a: &Expr, b: &Expr) -> Result<Option<Expr>, Memory>
-    ensures { IfOk result (λ o. o ≡ if_closed (row_of_two schema 0 (a.now ∷ b.now ∷ []))) }
+/// The closed formula of such a schema.
+fn closed_two(alloc: Global, schema: OfTwo, a: &Expr, b: &Expr) -> Result<Option<Expr>, Memory>
+    ensures { IfOk result (λ o. o ≡ if_closed (Some (formula_of_two schema a.now b.now))) }
 {
-    if !are_two_scoped(a, b, two_depth(schema)) {
+    if !are_two_scoped(a, b) {
         return Ok(None);
     }
-    Ok(Some(build_two(alloc, schema, a, b)?))
+    Ok(if_closed(build_two(alloc, schema, a, b)?))
 }
 
-/// The instance of such a schema for parameters that fit.
+/// The formula of such a schema.
 fn build_three(alloc: Global, schema: OfThree, a: &Expr, b: &Expr, c: &Expr) -> Result<Expr, Memory>
     requires first { IsScoped 0 a.now }
-    requires second { IsScoped 0 b.now }
-    requires third { IsScoped (depth_of_three schema) c.now }
-    ensures { IfOk result (λ e. if_closed (row_of_three schema 0 (a.now ∷ b.now ∷ c.now ∷ [])) ≡ Some e) }
+    requires third { IsScoped 1 c.now }
+    ensures { IfOk result (λ e. e ≡ formula_of_three schema a.now b.now c.now) }
 {
     match schema {
         OfThree::Cup => joined(alloc, Head::Cup, Head::Or, a, b, c),
@@ -131,76 +100,76 @@ fn build_three(alloc: Global, schema: OfThree, a: &Expr, b: &Expr, c: &Expr) -> 
     }
 }
 
-/// The closed instance of such a schema.
-fn of_three(
+/// The closed formula of such a schema.
+fn closed_three(
     alloc: Global,
     schema: OfThree,
     a: &Expr,
     b: &Expr,
     c: &Expr,
 ) -> Result<Option<Expr>, Memory>
-    ensures { IfOk result (λ o. o ≡ if_closed (row_of_three schema 0 (a.now ∷ b.now ∷ c.now ∷ []))) }
+    ensures { IfOk result (λ o. o ≡ if_closed (Some (formula_of_three schema a.now b.now c.now))) }
 {
-    if !are_three_scoped(a, b, c, three_depth(schema)) {
+    if !are_three_scoped(a, b, c) {
         return Ok(None);
     }
-    Ok(Some(build_three(alloc, schema, a, b, c)?))
+    Ok(if_closed(build_three(alloc, schema, a, b, c)?))
 }
 
-/// The closed instance about two functions that are written out.
-fn of_functions(
+/// The closed formula about two functions that are written out.
+fn closed_functions(
     alloc: Global,
     s: &Expr,
     d: &Expr,
     t: &Expr,
     e: &Expr,
 ) -> Result<Option<Expr>, Memory>
-    ensures { IfOk result (λ o. o ≡ if_closed (row17 0 (s.now ∷ d.now ∷ t.now ∷ e.now ∷ []))) }
+    ensures { IfOk result (λ o. o ≡ if_closed (Some (about_functions s.now d.now t.now e.now))) }
 {
     if !are_four_scoped(s, d, t, e) {
         return Ok(None);
     }
-    Ok(Some(function_equality(alloc, s, d, t, e)?))
+    Ok(if_closed(function_equality(alloc, s, d, t, e)?))
 }
 
 /// The closed instance of a schema with one parameter.
 fn for_one(alloc: Global, schema: OfOne, params: &[Expr]) -> Result<Option<Expr>, Memory>
-    ensures { IfOk result (λ o. o ≡ if_closed (row_of_one schema 0 params.now)) }
+    ensures { IfOk result (λ o. o ≡ if_closed (of_one (formula_of_one schema) 0 params.now)) }
 {
     if params.len() != 1 {
         return Ok(None);
     }
-    of_one(alloc, schema, &params[0])
+    closed_one(alloc, schema, &params[0])
 }
 
 /// The closed instance of a schema with two parameters.
 fn for_two(alloc: Global, schema: OfTwo, params: &[Expr]) -> Result<Option<Expr>, Memory>
-    ensures { IfOk result (λ o. o ≡ if_closed (row_of_two schema 0 params.now)) }
+    ensures { IfOk result (λ o. o ≡ if_closed (of_two (formula_of_two schema) 0 params.now)) }
 {
     if params.len() != 2 {
         return Ok(None);
     }
-    of_two(alloc, schema, &params[0], &params[1])
+    closed_two(alloc, schema, &params[0], &params[1])
 }
 
 /// The closed instance of a schema with three parameters.
 fn for_three(alloc: Global, schema: OfThree, params: &[Expr]) -> Result<Option<Expr>, Memory>
-    ensures { IfOk result (λ o. o ≡ if_closed (row_of_three schema 0 params.now)) }
+    ensures { IfOk result (λ o. o ≡ if_closed (of_three (formula_of_three schema) 0 params.now)) }
 {
     if params.len() != 3 {
         return Ok(None);
     }
-    of_three(alloc, schema, &params[0], &params[1], &params[2])
+    closed_three(alloc, schema, &params[0], &params[1], &params[2])
 }
 
 /// The closed instance about two functions that are written out.
 fn for_functions(alloc: Global, params: &[Expr]) -> Result<Option<Expr>, Memory>
-    ensures { IfOk result (λ o. o ≡ if_closed (row17 0 params.now)) }
+    ensures { IfOk result (λ o. o ≡ if_closed (of_four about_functions 0 params.now)) }
 {
     if params.len() != 4 {
         return Ok(None);
     }
-    of_functions(alloc, &params[0], &params[1], &params[2], &params[3])
+    closed_functions(alloc, &params[0], &params[1], &params[2], &params[3])
 }
 
 /// The closed instance about two literals.

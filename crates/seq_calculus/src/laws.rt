@@ -1,3 +1,4 @@
+//! Laws of the calculus, each the contract of a function that does nothing.
 ghost use Rattle.seq_calculus.specs.Laws.{Weakening, Substitution, Closedness, ClosedInstances};
 ghost use Rattle.seq_calculus.specs.Example.{FlatExample};
 

@@ -9,7 +9,6 @@
 //! - `instance_of`, the closed instance of a schema, or None exactly where there is none.
 #![tactic(auto)]
 
-mod build;
 mod instance;
 mod laws;
 mod lists;

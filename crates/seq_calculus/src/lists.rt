@@ -1,3 +1,4 @@
+//! The nodes and the steps of a proof that is kept as lists.
 use sqlite_items::Items;
 
 /// A node of a proof's table of expressions.

@@ -1,11 +1,11 @@
+//! The instance about two literals.
 ghost use Rattle.std.specs.Prelude.{◌≡◌, ◌↔◌, ◌∷◌, [], true, IsTrue, IfOk};
 ghost use Rattle.core_expr.specs.Tree.{not_, eq_};
 ghost use Rattle.core_expr.specs.Heads.{IsWellFormed};
 ghost use Rattle.seq_calculus.specs.Literals.{lone_head, are_heads_literal};
 ghost use Rattle.seq_calculus.specs.Schemas.{are_apart, if_closed, row22};
 
-use crate::build::one;
-use crate::row::equation;
+use crate::row::{if_closed, pair};
 use core_expr::{Expr, Head, Memory};
 use std::alloc::Global;
 
@@ -41,7 +41,7 @@ fn are_apart(l: &Expr, m: &Expr) -> bool
 fn build_literals(alloc: Global, l: &Expr, m: &Expr) -> Result<Expr, Memory>
     ensures { IfOk result (λ e. e ≡ not_ (eq_ l.now m.now)) }
 {
-    one(alloc, Head::Not, equation(alloc, l, m)?)
+    Expr::unary(alloc, Head::Not, pair(alloc, Head::Eq, l, m)?)
 }
 
 /// The closed instance about two literals.
@@ -51,5 +51,5 @@ pub(crate) fn literals(alloc: Global, l: &Expr, m: &Expr) -> Result<Option<Expr>
     if !are_apart(l, m) {
         return Ok(None);
     }
-    Ok(Some(build_literals(alloc, l, m)?))
+    Ok(if_closed(build_literals(alloc, l, m)?))
 }

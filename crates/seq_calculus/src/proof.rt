@@ -1,3 +1,4 @@
+//! A proof that is kept as lists.
 ghost use Rattle.std.specs.Prelude.{◌≡◌};
 ghost use Rattle.seq_calculus.specs.Lists.{AreLists};
 

@@ -1,3 +1,4 @@
+//! The schemas by name.
 ghost use Rattle.std.specs.Prelude.{◌≡◌};
 ghost use Rattle.seq_calculus.specs.Families.{schema_numbered};
 

@@ -1,27 +1,14 @@
-ghost use Rattle.std.specs.Prelude.{◌≡◌, ◌↔◌, ◌++◌, ◌∷◌, [], length, cond, nat_eq, IsTrue, IfOk, OnOk};
-ghost use Rattle.core_expr.specs.Tree.{true_, false_, and_, or_, eq_, in_, iff_, enum_, tuple_, apply_, num_};
+//! The instances about sets and tuples that are written out.
+ghost use Rattle.std.specs.Prelude.{◌≡◌, [], length, IsTrue, IfOk};
+ghost use Rattle.core_expr.specs.Tree.{enum_, tuple_};
 ghost use Rattle.core_expr.specs.Tree.Tree.{node};
 ghost use Rattle.core_expr.specs.Tree.Parts.{end, part};
-ghost use Rattle.core_expr.specs.Heads.{plain_fits, parts_of};
-ghost use Rattle.seq_calculus.specs.Calculus.{AllClosed};
-ghost use Rattle.seq_calculus.specs.Schemas.{if_closed, join, join_from, equals_each, equal_pairs, row1, row20, row21};
+ghost use Rattle.core_expr.specs.Heads.{takes, parts_of};
+ghost use Rattle.seq_calculus.specs.Schemas.{if_closed, about_enumeration, tuple_meaning, about_tuples, about_entry, join, join_from, equals_each, equal_pairs, row1, row20, row21};
 
-use crate::build::{leaf, numeral, push, two};
-use crate::row::{equation, membership};
+use crate::row::{if_closed, membership, pair};
 use core_expr::{Expr, Head, Memory};
 use std::alloc::Global;
-
-/// Whether all of these are closed.
-fn are_closed(items: &[Expr]) -> bool
-    ensures { IsTrue result ↔ AllClosed items.now }
-{
-    for item in items {
-        if !item.is_closed() {
-            return false;
-        }
-    }
-    true
-}
 
 /// Copies of these.
 fn copies(alloc: Global, items: &[Expr]) -> Result<Vec<Expr>, Memory>
@@ -29,7 +16,7 @@ fn copies(alloc: Global, items: &[Expr]) -> Result<Vec<Expr>, Memory>
 {
     let mut out = Vec::new(alloc);
     for item in items {
-        push(&mut out, item.copy(alloc)?)?;
+        out.push(item.copy(alloc)?)?;
     }
     Ok(out)
 }
@@ -38,26 +25,14 @@ fn copies(alloc: Global, items: &[Expr]) -> Result<Vec<Expr>, Memory>
 fn set_of(alloc: Global, items: &[Expr]) -> Result<Expr, Memory>
     ensures { IfOk result (λ e. e ≡ enum_ (parts_of items.now)) }
 {
-    Expr::build(
-        alloc,
-        17,
-        None,
-        &[items.len() as u64],
-        copies(alloc, items)?,
-    )
+    Expr::plain(alloc, Head::Enum, copies(alloc, items)?)
 }
 
 /// `<<items>>`.
 fn tuple_of(alloc: Global, items: &[Expr]) -> Result<Expr, Memory>
     ensures { IfOk result (λ e. e ≡ tuple_ (parts_of items.now)) }
 {
-    Expr::build(
-        alloc,
-        30,
-        None,
-        &[items.len() as u64],
-        copies(alloc, items)?,
-    )
+    Expr::plain(alloc, Head::Tuple, copies(alloc, items)?)
 }
 
 /// `t = item` for each of the items.
@@ -66,7 +41,7 @@ fn equations_with(alloc: Global, t: &Expr, items: &[Expr]) -> Result<Vec<Expr>, 
 {
     let mut out = Vec::new(alloc);
     for item in items {
-        push(&mut out, equation(alloc, t, item)?)?;
+        out.push(pair(alloc, Head::Eq, t, item)?)?;
     }
     Ok(out)
 }
@@ -78,38 +53,38 @@ fn equations(alloc: Global, left: &[Expr], right: &[Expr]) -> Result<Vec<Expr>, 
 {
     let mut out = Vec::new(alloc);
     for i in 0..left.len() {
-        push(&mut out, equation(alloc, &left[i], &right[i])?)?;
+        out.push(pair(alloc, Head::Eq, &left[i], &right[i])?)?;
     }
     Ok(out)
 }
 
 /// What follows the first, joined to it from the left.
 fn join_after(alloc: Global, connective: Head, first: &Expr, rest: &[Expr]) -> Result<Expr, Memory>
-    requires { IsTrue (plain_fits connective [] 2) }
+    requires { IsTrue (takes connective 2) }
     ensures { IfOk result (λ e. e ≡ join_from (λ a b. node connective [] (part a (part b end))) first.now rest.now) }
 {
     let mut joined = first.copy(alloc)?;
     for item in rest {
-        joined = two(alloc, connective, joined, item.copy(alloc)?)?;
+        joined = Expr::binary(alloc, connective, joined, item.copy(alloc)?)?;
     }
     Ok(joined)
 }
 
 /// The items joined from the left, one by itself, or the head `none` where there are no items.
 fn join(alloc: Global, connective: Head, none: Head, items: &[Expr]) -> Result<Expr, Memory>
-    requires connective_fits { IsTrue (plain_fits connective [] 2) }
-    requires none_fits { IsTrue (plain_fits none [] 0) }
+    requires connective_fits { IsTrue (takes connective 2) }
+    requires none_fits { IsTrue (takes none 0) }
     ensures { IfOk result (λ e. e ≡ join (λ a b. node connective [] (part a (part b end))) (node none [] end) items.now) }
 {
     if items.is_empty() {
-        return leaf(alloc, none);
+        return Expr::leaf(alloc, none);
     }
     join_after(alloc, connective, &items[0], &items[1..])
 }
 
 /// `t \in {elements} <=> (t = the first \/ .. \/ t = the last)`.
 fn build_enumeration(alloc: Global, t: &Expr, elements: &[Expr]) -> Result<Expr, Memory>
-    ensures { IfOk result (λ e. e ≡ iff_ (in_ t.now (enum_ (parts_of elements.now))) (join (λ a b. or_ a b) false_ (equals_each t.now elements.now))) }
+    ensures { IfOk result (λ e. e ≡ about_enumeration t.now elements.now) }
 {
     let equations = equations_with(alloc, t, elements)?;
     let meaning = join(alloc, Head::Or, Head::False, equations.as_slice())?;
@@ -120,21 +95,18 @@ fn build_enumeration(alloc: Global, t: &Expr, elements: &[Expr]) -> Result<Expr,
 pub(crate) fn enumeration(alloc: Global, params: &[Expr]) -> Result<Option<Expr>, Memory>
     ensures { IfOk result (λ o. o ≡ if_closed (row1 0 params.now)) }
 {
-    if !are_closed(params) {
-        return Ok(None);
-    }
     if params.is_empty() {
         return Ok(None);
     }
-    Ok(Some(build_enumeration(alloc, &params[0], &params[1..])?))
+    Ok(if_closed(build_enumeration(alloc, &params[0], &params[1..])?))
 }
 
 /// What the equality of these tuples means: each two entries are equal, or FALSE where they are not as many.
 fn tuple_meaning(alloc: Global, left: &[Expr], right: &[Expr]) -> Result<Expr, Memory>
-    ensures { IfOk result (λ e. e ≡ cond (nat_eq (length left.now) (length right.now)) (join (λ a b. and_ a b) true_ (equal_pairs left.now right.now)) false_) }
+    ensures { IfOk result (λ e. e ≡ tuple_meaning left.now right.now) }
 {
     if left.len() != right.len() {
-        return leaf(alloc, Head::False);
+        return Expr::leaf(alloc, Head::False);
     }
     let equations = equations(alloc, left, right)?;
     join(alloc, Head::And, Head::True, equations.as_slice())
@@ -142,15 +114,15 @@ fn tuple_meaning(alloc: Global, left: &[Expr], right: &[Expr]) -> Result<Expr, M
 
 /// `<<left>> = <<right>> <=>` what it means.
 fn build_tuples(alloc: Global, left: &[Expr], right: &[Expr]) -> Result<Expr, Memory>
-    ensures { IfOk result (λ e. e ≡ iff_ (eq_ (tuple_ (parts_of left.now)) (tuple_ (parts_of right.now))) (cond (nat_eq (length left.now) (length right.now)) (join (λ a b. and_ a b) true_ (equal_pairs left.now right.now)) false_)) }
+    ensures { IfOk result (λ e. e ≡ about_tuples left.now right.now) }
 {
-    let whole = two(
+    let whole = Expr::binary(
         alloc,
         Head::Eq,
         tuple_of(alloc, left)?,
         tuple_of(alloc, right)?,
     )?;
-    two(alloc, Head::Iff, whole, tuple_meaning(alloc, left, right)?)
+    Expr::binary(alloc, Head::Iff, whole, tuple_meaning(alloc, left, right)?)
 }
 
 /// The closed instance about two tuples: the first `number` parameters are the entries of the first.
@@ -164,24 +136,21 @@ pub(crate) fn tuple_equality(
     if number > params.len() as u64 {
         return Ok(None);
     }
-    if !are_closed(params) {
-        return Ok(None);
-    }
     let at = number as usize;
-    Ok(Some(build_tuples(alloc, &params[..at], &params[at..])?))
+    Ok(if_closed(build_tuples(alloc, &params[..at], &params[at..])?))
 }
 
 /// `<<params>>[number] = entry`.
 fn build_entry(alloc: Global, number: u64, entry: &Expr, params: &[Expr]) -> Result<Expr, Memory>
-    ensures { IfOk result (λ e. e ≡ eq_ (apply_ (tuple_ (parts_of params.now)) (num_ 0 number)) entry.now) }
+    ensures { IfOk result (λ e. e ≡ about_entry params.now number entry.now) }
 {
-    let applied = two(
+    let applied = Expr::binary(
         alloc,
         Head::Apply,
         tuple_of(alloc, params)?,
-        numeral(alloc, number)?,
+        Expr::numeral(alloc, 0, number)?,
     )?;
-    two(alloc, Head::Eq, applied, entry.copy(alloc)?)
+    Expr::binary(alloc, Head::Eq, applied, entry.copy(alloc)?)
 }
 
 /// The closed instance about the entry `number`, from 1, of the tuple of the parameters.
@@ -198,9 +167,6 @@ pub(crate) fn tuple_entry(
     if number > params.len() as u64 {
         return Ok(None);
     }
-    if !are_closed(params) {
-        return Ok(None);
-    }
     let entry = &params[(number - 1) as usize];
-    Ok(Some(build_entry(alloc, number, entry, params)?))
+    Ok(if_closed(build_entry(alloc, number, entry, params)?))
 }
