@@ -17,17 +17,17 @@ use Rattle.operator_chain.specs.declared.chain.Piece.TheVariants as piece
 use Rattle.operator_chain.specs.Tree.{hole}
 use Rattle.operator_chain.specs.Chain.{IsChain}
 use Rattle.operator_chain.specs.Listed.{IsListed, AreListed}
-use Rattle.layout_parser.specs.declared.mark.Mark.{Mark}
-use Rattle.layout_parser.specs.declared.mark.Mark.TheVariants as m
-use Rattle.layout_parser.specs.declared.setting.Setting.{Setting}
+use Rattle.token_reader.specs.declared.mark.Mark.{Mark}
+use Rattle.token_reader.specs.declared.mark.Mark.TheVariants as m
+use Rattle.token_reader.specs.declared.setting.Setting.{Setting}
 use Rattle.layout_parser.specs.declared.flat.Step.{Step}
 use Rattle.layout_parser.specs.declared.flat.Step.TheVariants.{More, Ended, Broken}
-use Rattle.layout_parser.specs.declared.setting.Stop.TheVariants as stop
+use Rattle.token_reader.specs.declared.setting.Stop.TheVariants as stop
 use Rattle.layout_parser.specs.declared.flat.Flat.{Flat}
 use Rattle.core_expr.specs.declared.memory.Memory.{Memory}
 use Rattle.layout_parser.specs.Nests.{Flats, ended}
-use Rattle.layout_parser.specs.Marks.{Text, spelling}
-use Rattle.layout_parser.specs.Input.{Tokens, Outcome, first, next, here, is_inside, mark, name, too_deep}
+use Rattle.token_reader.specs.Marks.{Text, spelling}
+use Rattle.token_reader.specs.Input.{Tokens, Outcome, first, next, here, is_inside, mark, name, too_deep}
 use Rattle.layout_parser.specs.Reading.{Chain, ChainReader, Stepped, behind, left_over, joined, full, step, step_before, step_after, before_by, after_by, suffixed, by_operand, by_suffix, operand, operator_at, operator_in, index_at, field_at, prime_at, member_at, indexed, field, index, chain_from, nested}
 
 -- ---- the loop

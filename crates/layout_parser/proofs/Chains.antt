@@ -13,14 +13,14 @@ use Rattle.operator_chain.specs.declared.chain.Ending.{Ending}
 use Rattle.operator_chain.specs.declared.chain.Ending.TheVariants as ending
 use Rattle.operator_chain.specs.Tree.{Tree, leaf, prefixed, suffixed, joined, flat, hole}
 use Rattle.operator_chain.specs.Chain.{IsWhole, OneRightTree}
-use Rattle.layout_parser.specs.declared.mark.Mark.{Mark}
-use Rattle.layout_parser.specs.declared.mark.Mark.TheVariants as m
-use Rattle.layout_parser.specs.declared.setting.Setting.{Setting}
-use Rattle.layout_parser.specs.declared.setting.Stop.TheVariants as stop
+use Rattle.token_reader.specs.declared.mark.Mark.{Mark}
+use Rattle.token_reader.specs.declared.mark.Mark.TheVariants as m
+use Rattle.token_reader.specs.declared.setting.Setting.{Setting}
+use Rattle.token_reader.specs.declared.setting.Stop.TheVariants as stop
 use Rattle.layout_parser.specs.declared.flat.Step.{Step}
 use Rattle.layout_parser.specs.declared.flat.Step.TheVariants.{More, Ended, Broken}
-use Rattle.layout_parser.specs.Marks.{Text, spelling}
-use Rattle.layout_parser.specs.Input.{Tokens, Outcome, first, next, here, mark, is_inside, name}
+use Rattle.token_reader.specs.Marks.{Text, spelling}
+use Rattle.token_reader.specs.Input.{Tokens, Outcome, first, next, here, mark, is_inside, name}
 use Rattle.layout_parser.specs.Reading as rule
 use Rattle.layout_parser.specs.Reading.{Chain, ChainReader, Stepped, behind, operator_in, operator_at, reading, nested, outermost, located, most_nestings, finished}
 use Rattle.layout_parser.specs.Spelling.{Stops}

@@ -11,7 +11,7 @@ use Rattle.tla_ast.specs.declared.tree.Node.{Node}
 use Rattle.tla_ast.specs.Listing.{Ends}
 use Rattle.operator_chain.specs.declared.chain.Piece.{Piece}
 use Rattle.operator_chain.specs.Chain.{OneRightTree}
-use Rattle.layout_parser.specs.Input.{Tokens, Outcome, first}
+use Rattle.token_reader.specs.Input.{Tokens, Outcome, first}
 use Rattle.layout_parser.specs.Reading.{Chain, reading, nested, outermost, located, most_nestings, finished}
 use Rattle.layout_parser.specs.Laws.{IsReading, Uses, ReadInOrder, InsideTheRegion, EndIsExact, EndsBeforeTheLast}
 use Rattle.layout_parser.specs.Spelling.{Stops, Symbols, expression, MayUse, Spelled, none, token, of_operand, of_tree, of_no_bullet}

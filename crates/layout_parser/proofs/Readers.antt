@@ -21,14 +21,14 @@ use Rattle.layout_parser.specs.declared.bound.After.TheVariants as after_bound
 use Rattle.operator_chain.specs.Chain.{OneRightTree}
 use Rattle.operator_chain.specs.declared.chain.Piece.{Piece}
 use Rattle.operator_chain.specs.declared.chain.Piece.TheVariants as piece
-use Rattle.layout_parser.specs.declared.mark.Mark.{Mark}
-use Rattle.layout_parser.specs.declared.mark.Mark.TheVariants as m
-use Rattle.layout_parser.specs.declared.setting.Around.{Around}
-use Rattle.layout_parser.specs.declared.setting.Around.TheVariants as around
-use Rattle.layout_parser.specs.declared.setting.Setting.{Setting}
-use Rattle.layout_parser.specs.declared.setting.Stop.TheVariants as stop
-use Rattle.layout_parser.specs.Marks.{spelling, same_mark, mark_of}
-use Rattle.layout_parser.specs.Input.{Tokens, Outcome, first, next, here, sees, sees_second, declared, and_then, within, is_tuple, is_inside, mark, right_of, with_at, after}
+use Rattle.token_reader.specs.declared.mark.Mark.{Mark}
+use Rattle.token_reader.specs.declared.mark.Mark.TheVariants as m
+use Rattle.token_reader.specs.declared.setting.Around.{Around}
+use Rattle.token_reader.specs.declared.setting.Around.TheVariants as around
+use Rattle.token_reader.specs.declared.setting.Setting.{Setting}
+use Rattle.token_reader.specs.declared.setting.Stop.TheVariants as stop
+use Rattle.token_reader.specs.Marks.{spelling, same_mark, mark_of}
+use Rattle.token_reader.specs.Input.{Tokens, Outcome, first, next, here, sees, sees_second, declared, and_then, within, is_tuple, is_inside, mark, right_of, with_at, after}
 use Rattle.layout_parser.specs.Reading as rule
 use Rattle.layout_parser.specs.Reading.{Chain, ChainReader, part, behind, after_member, member_at, is_whole, is_tuple_form, with_field, with_update}
 use Rattle.layout_parser.specs.Spelling as spell

@@ -12,13 +12,13 @@ use Rattle.tla_ast.specs.declared.fault.SynFault.{SynFault}
 use Rattle.tla_ast.specs.declared.tree.Node.{Node}
 use Rattle.tla_ast.specs.declared.tree.Decl.{Decl}
 use Rattle.tla_ast.specs.Listing.{is_last}
-use Rattle.layout_parser.specs.contracts.mark.Mark.{the_type}
-use Rattle.layout_parser.specs.declared.mark.Mark.{Mark}
-use Rattle.layout_parser.specs.declared.mark.Mark.TheVariants as m
-use Rattle.layout_parser.specs.declared.setting.Setting.{Setting}
-use Rattle.layout_parser.specs.declared.setting.Stop.{Stop}
-use Rattle.layout_parser.specs.Marks.{Text, mark_of, spelling, same_mark}
-use Rattle.layout_parser.specs.Input.{Tokens, Outcome, Reader, and_then, ◌>>=◌, ◌>>◌, first, next, here, mark, sees, expect, name, declared, opening, after}
+use Rattle.token_reader.specs.contracts.mark.Mark.{the_type}
+use Rattle.token_reader.specs.declared.mark.Mark.{Mark}
+use Rattle.token_reader.specs.declared.mark.Mark.TheVariants as m
+use Rattle.token_reader.specs.declared.setting.Setting.{Setting}
+use Rattle.token_reader.specs.declared.setting.Stop.{Stop}
+use Rattle.token_reader.specs.Marks.{Text, mark_of, spelling, same_mark}
+use Rattle.token_reader.specs.Input.{Tokens, Outcome, Reader, and_then, ◌>>=◌, ◌>>◌, first, next, here, mark, sees, expect, name, declared, opening, after}
 use Rattle.std_names.specs.declared.operators.Fix.{Fix}
 use Rattle.std_names.specs.declared.operators.Fix.TheVariants.{Prefix, Infix, Postfix}
 use Rattle.std_names.specs.Operators.{operator, prefix_rows, infix_rows, postfix_rows}

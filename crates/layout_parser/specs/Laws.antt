@@ -4,7 +4,7 @@ use Rattle.std.specs.List.{All}
 use Rattle.tla_ast.specs.declared.token.Token.{Token}
 use Rattle.tla_ast.specs.declared.tree.Node.{Node}
 use Rattle.tla_ast.specs.Listing.{IsTokenList}
-use Rattle.layout_parser.specs.Input.{first}
+use Rattle.token_reader.specs.Input.{first}
 use Rattle.layout_parser.specs.Reading.{reading}
 use Rattle.layout_parser.specs.Spelling.{Spells, Stops}
 

@@ -7,8 +7,8 @@ use Rattle.tla_ast.specs.declared.fault.SynFault.{SynFault}
 use Rattle.layout_parser.specs.declared.flat.Flat.{Flat}
 use Rattle.layout_parser.specs.declared.flat.Step.{Step}
 use Rattle.layout_parser.specs.declared.flat.Step.TheVariants.{More, Ended, Broken}
-use Rattle.layout_parser.specs.declared.setting.Setting.{Setting}
-use Rattle.layout_parser.specs.Input.{Tokens}
+use Rattle.token_reader.specs.declared.setting.Setting.{Setting}
+use Rattle.token_reader.specs.Input.{Tokens}
 use Rattle.layout_parser.specs.Reading.{Chain, Stepped, nested}
 
 -- after a fault nothing is said of the tokens that are left

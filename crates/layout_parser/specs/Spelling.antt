@@ -22,10 +22,10 @@ use Rattle.operator_chain.specs.declared.chain.Piece.{Piece}
 use Rattle.operator_chain.specs.declared.chain.Piece.TheVariants as piece
 use Rattle.operator_chain.specs.Tree.{Tree, node_of, flat, is_right}
 use Rattle.operator_chain.specs.Listed.{AreListed}
-use Rattle.layout_parser.specs.declared.mark.Mark.{Mark}
-use Rattle.layout_parser.specs.declared.mark.Mark.TheVariants as m
-use Rattle.layout_parser.specs.Marks.{Text, mark_of, spelling}
-use Rattle.layout_parser.specs.Input.{Tokens, literal_form, first}
+use Rattle.token_reader.specs.declared.mark.Mark.{Mark}
+use Rattle.token_reader.specs.declared.mark.Mark.TheVariants as m
+use Rattle.token_reader.specs.Marks.{Text, mark_of, spelling}
+use Rattle.token_reader.specs.Input.{Tokens, literal_form, first}
 use Rattle.layout_parser.specs.Reading.{node, group, operator_at}
 
 -- ---- symbols

@@ -1,21 +1,20 @@
 //! Braces.
 
 ghost use Rattle.std.specs.Prelude.{◌≡◌, true};
-ghost use Rattle.layout_parser.specs.Input as input;
+ghost use Rattle.token_reader.specs.Input as input;
 ghost use Rattle.operator_chain.specs.Chain.{IsChain};
 ghost use Rattle.operator_chain.specs.Listed.{AreListed};
-ghost use Rattle.layout_parser.specs.Input.{Reads, and_then};
+ghost use Rattle.token_reader.specs.Input.{Reads, and_then};
 ghost use Rattle.layout_parser.specs.Reading as spec;
 ghost use Rattle.layout_parser.specs.Nests.{Nests, Flats, ended};
 
 use crate::build::{binary, leaf, unary, whole};
-use crate::cursor::Cursor;
+use token_reader::Cursor;
 use crate::flat::Flat;
 use crate::grammar::{Grammar, finished};
-use crate::held::{Held, HeldItems};
-use crate::mark::Mark;
-use crate::member::{Bound, element, is_whole, put_before};
-use crate::setting::{Around, Setting, Stop};
+use token_reader::Mark;
+use crate::member::{Bound, element, ends_at, put_before};
+use token_reader::{Around, Setting, Stop};
 use core_expr::{Memory, Text};
 use operator_chain::Piece;
 use std::alloc::Global;
@@ -56,8 +55,8 @@ impl<F: Fn(Global, &mut Cursor<'_>, usize, usize, Setting, bool) -> Result<Flat,
         &self,
         cursor: &mut Cursor<'_>,
         setting: Setting,
-        value: Held<Node>,
-    ) -> Result<Held<Node>, SynFault>
+        value: Node,
+    ) -> Result<Node, SynFault>
         requires { Nests self.now.left (F.pre self.now.read) (F.post self.now.read) }
         ensures { Reads (spec.image self.now.left (spec.nested self.now.left) setting value cursor.old) result cursor.new }
     {
@@ -77,8 +76,8 @@ impl<F: Fn(Global, &mut Cursor<'_>, usize, usize, Setting, bool) -> Result<Flat,
         setting: Setting,
         name: Text,
         place: Place,
-        set: Held<Node>,
-    ) -> Result<Held<Node>, SynFault>
+        set: Node,
+    ) -> Result<Node, SynFault>
         requires { Nests self.now.left (F.pre self.now.read) (F.post self.now.read) }
         ensures { Reads (spec.filter self.now.left (spec.nested self.now.left) setting name place set cursor.old) result cursor.new }
     {
@@ -95,12 +94,12 @@ impl<F: Fn(Global, &mut Cursor<'_>, usize, usize, Setting, bool) -> Result<Flat,
         cursor: &mut Cursor<'_>,
         setting: Setting,
         place: Place,
-        element: Held<Node>,
-    ) -> Result<Held<Node>, SynFault>
+        element: Node,
+    ) -> Result<Node, SynFault>
         requires { Nests self.now.left (F.pre self.now.read) (F.post self.now.read) }
         ensures { Reads (spec.elements self.now.left (spec.nested self.now.left) setting place element cursor.old) result cursor.new }
     {
-        let first = HeldItems::of(self.alloc, element)?;
+        let first = one(self.alloc, element)?;
         let parts = self.expressions(cursor, setting, first)?;
         cursor.expect(self.alloc, setting, Stop::Expression, Mark::CloseBrace)?;
         Ok(whole(Form::Enum, parts, place))
@@ -113,8 +112,8 @@ impl<F: Fn(Global, &mut Cursor<'_>, usize, usize, Setting, bool) -> Result<Flat,
         cursor: &mut Cursor<'_>,
         setting: Setting,
         place: Place,
-        element: Held<Node>,
-    ) -> Result<Held<Node>, SynFault>
+        element: Node,
+    ) -> Result<Node, SynFault>
         requires { Nests self.now.left (F.pre self.now.read) (F.post self.now.read) }
         ensures { Reads (spec.brace_end self.now.left (spec.nested self.now.left) setting place element cursor.old) result cursor.new }
     {
@@ -139,7 +138,7 @@ impl<F: Fn(Global, &mut Cursor<'_>, usize, usize, Setting, bool) -> Result<Flat,
         place: Place,
         bound: Bound,
         set: Flat,
-    ) -> Result<Held<Node>, SynFault>
+    ) -> Result<Node, SynFault>
         requires nests { Nests self.now.left (F.pre self.now.read) (F.post self.now.read) }
         requires set { IsChain true set.pieces.items × AreListed set.pieces.items }
         ensures { Reads (and_then (spec.finished (spec.after_member bound.name bound.place bound.sign (set.pieces.items, ended set.fault cursor.old))) (spec.brace_end self.now.left (spec.nested self.now.left) setting place)) result cursor.new }
@@ -155,14 +154,14 @@ impl<F: Fn(Global, &mut Cursor<'_>, usize, usize, Setting, bool) -> Result<Flat,
         cursor: &mut Cursor<'_>,
         setting: Setting,
         place: Place,
-    ) -> Result<Held<Node>, SynFault>
+    ) -> Result<Node, SynFault>
         requires { Nests self.now.left (F.pre self.now.read) (F.post self.now.read) }
         ensures { Reads (spec.member_brace self.now.left (spec.nested self.now.left) setting place cursor.old) result cursor.new }
     {
         let bound = Bound::read(self.alloc, cursor)?;
         let most = cursor.left();
         let set = self.inner(cursor, most, setting, true)?;
-        if !is_whole(self.alloc, cursor, setting, &set, Mark::Colon)? {
+        if !ends_at(cursor, setting, &set, Mark::Colon) {
             return self.other_member_brace(cursor, setting, place, bound, set);
         }
         let set = finished(self.alloc, set)?;
@@ -177,15 +176,15 @@ impl<F: Fn(Global, &mut Cursor<'_>, usize, usize, Setting, bool) -> Result<Flat,
         cursor: &mut Cursor<'_>,
         setting: Setting,
         place: Place,
-        operand: Held<Node>,
-    ) -> Result<Held<Node>, SynFault>
+        operand: Node,
+    ) -> Result<Node, SynFault>
         requires { Nests self.now.left (F.pre self.now.read) (F.post self.now.read) }
         ensures { Reads (spec.tuple_brace_after self.now.left (spec.nested self.now.left) setting place operand cursor.old) result cursor.new }
     {
-        let setting = after_first(cursor, setting, operand.get());
+        let setting = after_first(cursor, setting, &operand);
         let most = cursor.left();
         let mut flat = self.inner(cursor, most, setting, false)?;
-        put_before(&mut flat.pieces, Piece::Operand(operand.into_inner()))?;
+        put_before(&mut flat.pieces, Piece::Operand(operand))?;
         let element = finished(self.alloc, flat)?;
         self.brace_end(cursor, setting, place, element)
     }
@@ -197,7 +196,7 @@ impl<F: Fn(Global, &mut Cursor<'_>, usize, usize, Setting, bool) -> Result<Flat,
         cursor: &mut Cursor<'_>,
         setting: Setting,
         place: Place,
-    ) -> Result<Held<Node>, SynFault>
+    ) -> Result<Node, SynFault>
         requires { Nests self.now.left (F.pre self.now.read) (F.post self.now.read) }
         ensures { Reads (spec.tuple_brace self.now.left (spec.nested self.now.left) setting place cursor.old) result cursor.new }
     {
@@ -207,7 +206,7 @@ impl<F: Fn(Global, &mut Cursor<'_>, usize, usize, Setting, bool) -> Result<Flat,
         }
         match (pieces.pop_front(), pieces.is_empty()) {
             (Some(Piece::Operand(operand)), true) => {
-                self.tuple_brace_after(cursor, setting, place, Held::new(operand))
+                self.tuple_brace_after(cursor, setting, place, operand)
             }
             _ => Err(cursor.refusal(self.alloc, setting, Stop::Operand)),
         }
@@ -220,7 +219,7 @@ impl<F: Fn(Global, &mut Cursor<'_>, usize, usize, Setting, bool) -> Result<Flat,
         cursor: &mut Cursor<'_>,
         setting: Setting,
         place: Place,
-    ) -> Result<Held<Node>, SynFault>
+    ) -> Result<Node, SynFault>
         requires { Nests self.now.left (F.pre self.now.read) (F.post self.now.read) }
         ensures { Reads (spec.brace_from self.now.left (spec.nested self.now.left) setting place cursor.old) result cursor.new }
     {
@@ -239,7 +238,7 @@ impl<F: Fn(Global, &mut Cursor<'_>, usize, usize, Setting, bool) -> Result<Flat,
 
     /// `{e, ..}`, `{x \in S : P}`, `{e : x \in S}`.
     #[tactic(auto, unfolding(crate::specs::Reading::brace))]
-    pub fn brace(&self, cursor: &mut Cursor<'_>, setting: Setting) -> Result<Held<Node>, SynFault>
+    pub fn brace(&self, cursor: &mut Cursor<'_>, setting: Setting) -> Result<Node, SynFault>
         requires { Nests self.now.left (F.pre self.now.read) (F.post self.now.read) }
         ensures { Reads (spec.brace self.now.left (spec.nested self.now.left) setting cursor.old) result cursor.new }
     {

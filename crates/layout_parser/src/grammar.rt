@@ -5,14 +5,13 @@ ghost use Rattle.std.specs.Prelude.{◌≡◌, ◌≢◌, Ok, Err, IfOk, true};
 ghost use Rattle.tla_ast.specs.declared.fault.SynFault.TheVariants as syn;
 ghost use Rattle.operator_chain.specs.Chain.{IsChain, tree_of, fault_of};
 ghost use Rattle.operator_chain.specs.Listed.{AreListed};
-ghost use Rattle.layout_parser.specs.Input.{Tokens, Reads};
+ghost use Rattle.token_reader.specs.Input.{Tokens, Reads};
 ghost use Rattle.layout_parser.specs.Reading as spec;
 ghost use Rattle.layout_parser.specs.Nests.{Nests, Flats, Steps, ended};
 
-use crate::cursor::Cursor;
+use token_reader::Cursor;
 use crate::flat::{Flat, Step};
-use crate::held::Held;
-use crate::setting::{Setting, Stop};
+use token_reader::{Setting, Stop};
 use core_expr::Memory;
 use operator_chain::{ChainFault, Piece, tree};
 use std::alloc::Global;
@@ -40,14 +39,14 @@ pub fn told(fault: SynFault) -> Result<SynFault, Memory>
 
 /// The node of a chain, or the fault of its operators, or else that at which it breaks off.
 #[tactic(auto, unfolding(crate::specs::Reading::finished))]
-pub fn finished(alloc: Global, flat: Flat) -> Result<Held<Node>, SynFault>
+pub fn finished(alloc: Global, flat: Flat) -> Result<Node, SynFault>
     requires chain { IsChain true flat.pieces.items }
     requires listed { AreListed flat.pieces.items }
     ensures { (rest : Tokens) → Reads (spec.finished (flat.pieces.items, ended flat.fault rest)) result rest }
 {
     let Flat { pieces, fault } = flat;
     let node = match tree(alloc, pieces) {
-        Ok(node) => Held::new(node),
+        Ok(node) => node,
         Err(ChainFault::Memory) => return Err(SynFault::Memory),
         Err(ChainFault::Precedence(place)) => {
             return Err(SynFault::At {
@@ -95,7 +94,7 @@ impl<F: Fn(Global, &mut Cursor<'_>, usize, usize, Setting, bool) -> Result<Flat,
     }
 
     /// An expression in a further nesting.
-    pub fn part(&self, cursor: &mut Cursor<'_>, setting: Setting) -> Result<Held<Node>, SynFault>
+    pub fn part(&self, cursor: &mut Cursor<'_>, setting: Setting) -> Result<Node, SynFault>
         requires { Nests self.now.left (F.pre self.now.read) (F.post self.now.read) }
         ensures { Reads (spec.part self.now.left (spec.nested self.now.left) setting cursor.old) result cursor.new }
     {

@@ -2,10 +2,10 @@ ghost use Rattle.std.specs.Prelude.{◌<◌, ◌≤◌, length, IfOk};
 ghost use Rattle.tla_ast.specs.Listing.{IsTokenList};
 ghost use Rattle.layout_parser.specs.Reading as spec;
 
-use crate::cursor::Cursor;
+use token_reader::Cursor;
 use crate::grammar::{finished, read_chain};
 use crate::laws::ends_before_the_last;
-use crate::setting::{Around, Setting};
+use token_reader::{Around, Setting};
 use std::alloc::Global;
 use tla_ast::{Node, SynFault, Tokens};
 
@@ -49,5 +49,5 @@ pub fn read_expr(
     let flat = read_chain(alloc, &mut cursor, left, most, setting, true)?;
     let node = finished(alloc, flat)?;
     let after = list.len().saturating_sub(cursor.left());
-    Ok((node.into_inner(), after as u64))
+    Ok((node, after as u64))
 }

@@ -1,7 +1,7 @@
 //! Where an expression stands.
 
 ghost use Rattle.std.specs.Prelude.{◌≡◌};
-ghost use Rattle.layout_parser.specs.Input as spec;
+ghost use Rattle.token_reader.specs.Input as spec;
 
 /// The innermost unfinished bracket round a token, as far as what may be refused there goes by it.
 #[derive(Clone, Copy, Debug, PartialEq, Eq)]
@@ -21,7 +21,9 @@ pub enum Around {
 /// What an expression may use, wherever in it: tokens whose column is over the region, and `@` where it has a meaning.
 #[derive(Clone, Copy, Debug, PartialEq, Eq)]
 pub struct Setting {
+    /// The column over which tokens are used.
     pub region: u64,
+    /// The innermost unfinished bracket.
     pub around: Around,
     /// Whether a new value of an EXCEPT is round it.
     pub has_at: bool,
@@ -65,10 +67,12 @@ pub enum Stop {
     Expression,
     /// A bound name must come.
     Bound,
-    /// A parameter of a definition has ended.
+    /// A parameter of a definition, or the name of a NEW item, has ended.
     Parameter,
     /// The name with which a definition begins has ended.
     Defined,
+    /// The expression of a step has ended, and its outermost operator is `f[e]`.
+    Indexed,
     /// Anything else.
     Other,
 }

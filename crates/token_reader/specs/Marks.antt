@@ -1,4 +1,4 @@
--- What a token is to the reader of expressions.
+-- What a token is to the readers.
 use Rattle.std.specs.Prelude.{ℕ, Bool, if◌then◌else◌, nat_eq, List, [], ◌∷◌, Option, codes}
 use Rattle.std.specs.Cmp.Lexicographic.{pointwise}
 use denote.Enum.Bare.{sameb}
@@ -6,9 +6,9 @@ use Rattle.tla_ast.specs.declared.token.Tok.{Tok}
 use Rattle.tla_ast.specs.declared.token.Tok.TheVariants as tok
 use Rattle.std_names.specs.declared.operators.Fix.TheVariants.{Prefix}
 use Rattle.std_names.specs.Operators.{operator}
-use Rattle.layout_parser.specs.contracts.mark.Mark.{the_type}
-use Rattle.layout_parser.specs.declared.mark.Mark.{Mark}
-use Rattle.layout_parser.specs.declared.mark.Mark.TheVariants as m
+use Rattle.token_reader.specs.contracts.mark.Mark.{the_type}
+use Rattle.token_reader.specs.declared.mark.Mark.{Mark}
+use Rattle.token_reader.specs.declared.mark.Mark.TheVariants as m
 
 abbrev pub Text : Type 0
 Text = List ℕ
@@ -18,63 +18,63 @@ unfoldable pub words : List (Text × Mark)
 words =
     (codes "ACTION", m.Refused) ∷
     (codes "ASSUME", m.Assume) ∷
-    (codes "ASSUMPTION", m.Outside) ∷
-    (codes "AXIOM", m.Outside) ∷
+    (codes "ASSUMPTION", m.Assumption) ∷
+    (codes "AXIOM", m.Assumption) ∷
     (codes "BOOLEAN", m.Value) ∷
-    (codes "BY", m.Outside) ∷
+    (codes "BY", m.By) ∷
     (codes "CASE", m.Case) ∷
     (codes "CHOOSE", m.Choose) ∷
-    (codes "CONSTANT", m.Outside) ∷
-    (codes "CONSTANTS", m.Outside) ∷
-    (codes "COROLLARY", m.Outside) ∷
-    (codes "DEF", m.Outside) ∷
-    (codes "DEFINE", m.Outside) ∷
-    (codes "DEFS", m.Outside) ∷
+    (codes "CONSTANT", m.Constant) ∷
+    (codes "CONSTANTS", m.Constants) ∷
+    (codes "COROLLARY", m.Theorem) ∷
+    (codes "DEF", m.Def) ∷
+    (codes "DEFINE", m.Define) ∷
+    (codes "DEFS", m.Def) ∷
     (codes "DOMAIN", m.Operator) ∷
     (codes "ELSE", m.Else) ∷
     (codes "ENABLED", m.Operator) ∷
     (codes "EXCEPT", m.Except) ∷
-    (codes "EXTENDS", m.Outside) ∷
+    (codes "EXTENDS", m.Extends) ∷
     (codes "FALSE", m.Value) ∷
-    (codes "HAVE", m.Outside) ∷
-    (codes "HIDE", m.Outside) ∷
+    (codes "HAVE", m.Have) ∷
+    (codes "HIDE", m.Hide) ∷
     (codes "IF", m.If) ∷
     (codes "IN", m.In) ∷
     (codes "INSTANCE", m.Refused) ∷
     (codes "LAMBDA", m.Refused) ∷
-    (codes "LEMMA", m.Outside) ∷
+    (codes "LEMMA", m.Theorem) ∷
     (codes "LET", m.Let) ∷
     (codes "LOCAL", m.Refused) ∷
     (codes "MODULE", m.Refused) ∷
-    (codes "NEW", m.Outside) ∷
-    (codes "OBVIOUS", m.Outside) ∷
-    (codes "OMITTED", m.Outside) ∷
-    (codes "ONLY", m.Outside) ∷
+    (codes "NEW", m.New) ∷
+    (codes "OBVIOUS", m.Obvious) ∷
+    (codes "OMITTED", m.Omitted) ∷
+    (codes "ONLY", m.Only) ∷
     (codes "OTHER", m.Other) ∷
-    (codes "PICK", m.Outside) ∷
-    (codes "PROOF", m.Outside) ∷
-    (codes "PROPOSITION", m.Outside) ∷
-    (codes "PROVE", m.Outside) ∷
-    (codes "QED", m.Outside) ∷
+    (codes "PICK", m.Pick) ∷
+    (codes "PROOF", m.Proof) ∷
+    (codes "PROPOSITION", m.Theorem) ∷
+    (codes "PROVE", m.Prove) ∷
+    (codes "QED", m.Qed) ∷
     (codes "RECURSIVE", m.Refused) ∷
-    (codes "STATE", m.Outside) ∷
+    (codes "STATE", m.State) ∷
     (codes "STRING", m.Value) ∷
     (codes "SUBSET", m.Operator) ∷
-    (codes "SUFFICES", m.Outside) ∷
-    (codes "TAKE", m.Outside) ∷
+    (codes "SUFFICES", m.Suffices) ∷
+    (codes "TAKE", m.Take) ∷
     (codes "TEMPORAL", m.Refused) ∷
     (codes "THEN", m.Then) ∷
-    (codes "THEOREM", m.Outside) ∷
+    (codes "THEOREM", m.Theorem) ∷
     (codes "TRUE", m.Value) ∷
     (codes "UNCHANGED", m.Operator) ∷
     (codes "UNION", m.Operator) ∷
-    (codes "USE", m.Outside) ∷
-    (codes "VARIABLE", m.Outside) ∷
-    (codes "VARIABLES", m.Outside) ∷
-    (codes "WITH", m.Outside) ∷
-    (codes "WITNESS", m.Outside) ∷ []
+    (codes "USE", m.Use) ∷
+    (codes "VARIABLE", m.Variable) ∷
+    (codes "VARIABLES", m.Variables) ∷
+    (codes "WITH", m.With) ∷
+    (codes "WITNESS", m.Witness) ∷ []
 
--- the signs that expressions have, and those that stand between expressions
+-- the signs that the profile has
 unfoldable pub signs : List (Text × Mark)
 signs =
     (codes "/\\", m.And) ∷
@@ -123,7 +123,8 @@ signs =
     (codes "\\notin", m.Operator) ∷
     (codes "\\subseteq", m.Operator) ∷
     (codes "\\cup", m.Operator) ∷
-    (codes "\\cap", m.Operator) ∷ []
+    (codes "\\cap", m.Operator) ∷
+    (codes "_", m.Underscore) ∷ []
 
 -- the mark of the first row with this text
 abbrev pub mark_in : List (Text × Mark) → Text → Mark → Mark
@@ -136,7 +137,10 @@ mark_of (tok.Word w) = mark_in words w m.Name
 mark_of (tok.Sign s) = mark_in signs s m.Refused
 mark_of (tok.Number n) = m.Number
 mark_of (tok.Str s) = m.Str
-mark_of _ = m.Outside
+mark_of (tok.Step level label) = m.Step
+mark_of tok.Rule = m.Rule
+mark_of tok.End = m.End
+mark_of tok.Eof = m.Eof
 
 -- the spelling of a word or a sign
 abbrev pub spelling : Tok → Text

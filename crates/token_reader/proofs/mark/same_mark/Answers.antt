@@ -1,8 +1,8 @@
 use Rattle.std.proofs.Common.{rules, sym, ◌∙◌}
 use denote.Enum.Bare.{same_true}
-use Rattle.layout_parser.specs.contracts.mark.Mark.{the_type}
-use Rattle.layout_parser.specs.Marks.{same_mark}
-use Rattle.layout_parser.proofs.mark.same_mark.Goals as goal
+use Rattle.token_reader.specs.contracts.mark.Mark.{the_type}
+use Rattle.token_reader.specs.Marks.{same_mark}
+use Rattle.token_reader.proofs.mark.same_mark.Goals as goal
 
 pub returns-clause-value : goal.returns-clause-value
 unfolding same_mark

@@ -12,14 +12,14 @@ use Rattle.std.specs.Option.{is_some}
 use Rattle.tla_ast.specs.declared.tree.Decl.{Decl}
 use Rattle.tla_ast.specs.declared.tree.Form.{Form}
 use Rattle.tla_ast.specs.declared.tree.Form.TheVariants as form
-use Rattle.layout_parser.specs.declared.mark.Mark.{Mark}
-use Rattle.layout_parser.specs.declared.mark.Mark.TheVariants as m
-use Rattle.layout_parser.specs.declared.setting.Around.{Around}
-use Rattle.layout_parser.specs.declared.setting.Around.TheVariants as around
-use Rattle.layout_parser.specs.declared.setting.Setting.{Setting}
-use Rattle.layout_parser.specs.declared.setting.Stop.{Stop}
-use Rattle.layout_parser.specs.declared.setting.Stop.TheVariants as stop
-use Rattle.layout_parser.specs.Marks.{Text, mark_of, spelling, prefix_row, same_mark}
+use Rattle.token_reader.specs.declared.mark.Mark.{Mark}
+use Rattle.token_reader.specs.declared.mark.Mark.TheVariants as m
+use Rattle.token_reader.specs.declared.setting.Around.{Around}
+use Rattle.token_reader.specs.declared.setting.Around.TheVariants as around
+use Rattle.token_reader.specs.declared.setting.Setting.{Setting}
+use Rattle.token_reader.specs.declared.setting.Stop.{Stop}
+use Rattle.token_reader.specs.declared.setting.Stop.TheVariants as stop
+use Rattle.token_reader.specs.Marks.{Text, mark_of, spelling, prefix_row, same_mark}
 
 -- ---- the next token
 
@@ -93,6 +93,10 @@ abbrev pub is_defined : Stop → Bool
 is_defined stop.Defined = true
 is_defined _ = false
 
+abbrev pub is_indexed : Stop → Bool
+is_indexed stop.Indexed = true
+is_indexed _ = false
+
 abbrev pub is_square : Around → Bool
 is_square around.Square = true
 is_square _ = false
@@ -108,6 +112,8 @@ is_tuple _ = false
 -- the fault at a token is Unsupported in the place of Expected, by its mark, what is round it and what stands before it
 abbrev pub is_refused : Around → Stop → Mark → Bool
 is_refused a before m.Refused = true
+is_refused a before m.Underscore = true
+is_refused a before m.Defines = is_indexed before
 is_refused a before m.Assume = is_operand before
 is_refused a before m.OpenParen = is_parameter before
 is_refused a before m.OpenSquare = is_defined before
@@ -178,6 +184,10 @@ unfoldable pub declared : Setting → Stop → Reader Decl
 declared s before = λ ts.
     if sees s m.Name ts then Ok (record { name = spelling (first ts).tok; arity = 0; place = here ts }, next ts) else Err (refusal s before ts)
 
+-- the fault where a list has taken as many turns as there are tokens; no list of tokens comes to it, since each turn takes one
+abbrev pub exhausted : Tokens → SynFault
+exhausted ts = fault.At (here ts) Expected
+
 -- the opening sign of a bracket, where so many nestings may still begin
 unfoldable pub opening : ℕ → Reader Place
 opening zero = λ ts. Err (fault.At (here ts) TooDeep)
@@ -220,11 +230,10 @@ too_deep s ts = fault.At (here ts) (too_deep_kind s ts)
 -- ---- what a function that reads ensures: the reader's outcome, unless memory fails
 
 -- the fault is this one
-
 abbrev pub Told : SynFault → SynFault → Type 0
 Told told e = e ≢ fault.Memory → e ≡ told
 
--- the outcome is this one
+-- the outcome is this one, before these tokens
 abbrev pub Reads : {A : Type 0} → Outcome A → Result A SynFault → Tokens → Type 0
 Reads outcome (Ok a) new = outcome ≡ Ok (a, new)
 Reads outcome (Err e) new = e ≢ fault.Memory → outcome ≡ Err e

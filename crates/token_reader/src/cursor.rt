@@ -1,9 +1,9 @@
-//! The tokens that are left.
+//! The tokens that are left, and the small readers that every rule is made of.
 
-ghost use Rattle.std.specs.Prelude.{◌≡◌, ◌&&◌, ◌||◌, if◌then◌else◌, length, true, false, Ok, IfOk};
-ghost use Rattle.layout_parser.specs.Marks.{spelling as spelling_of};
-ghost use Rattle.layout_parser.specs.Input as spec;
-ghost use Rattle.layout_parser.specs.Input.{Told, Reads};
+ghost use Rattle.std.specs.Prelude.{◌≡◌, ◌∷◌, [], ◌&&◌, ◌||◌, if◌then◌else◌, length, true, false, Ok, IfOk, MatchOption};
+ghost use Rattle.token_reader.specs.Marks.{spelling as spelling_of};
+ghost use Rattle.token_reader.specs.Input as spec;
+ghost use Rattle.token_reader.specs.Input.{Told, Reads};
 
 use crate::mark::{Mark, mark_of, same_mark, spelling};
 use crate::setting::{Around, Setting, Stop};
@@ -23,7 +23,7 @@ pub struct Cursor<'a> {
 impl<'a> Model for Cursor<'a> {
     ghost use Rattle.std.specs.Prelude.{◌≡◌, List};
     ghost use Rattle.tla_ast.specs.declared.token.Token.{Token};
-    ghost use Rattle.layout_parser.specs.Input as spec;
+    ghost use Rattle.token_reader.specs.Input as spec;
 
     ghost Value = { List Token };
 
@@ -32,27 +32,31 @@ impl<'a> Model for Cursor<'a> {
     ghost invariant = { λ c. c.mark ≡ spec.mark c.rest.now };
 }
 
+/// Whether both hold.
 fn both(a: bool, b: bool) -> bool
     ensures { result ≡ (a && b) }
 {
     a && b
 }
 
+/// The mark of the first token.
 #[tactic(auto, unfolding(crate::specs::Input::mark))]
 fn first_mark(rest: &[Token]) -> Mark
     ensures { result ≡ spec.mark rest.now }
 {
     match rest {
-        [] => Mark::Outside,
+        [] => Mark::Eof,
         [first, ..] => mark_of(&first.tok),
     }
 }
 
+/// Whether the fault at a token is Unsupported in the place of Expected.
 fn is_refused(around: Around, before: Stop, mark: Mark) -> bool
     ensures { result ≡ spec.is_refused around before mark }
 {
     match mark {
-        Mark::Refused => true,
+        Mark::Refused | Mark::Underscore => true,
+        Mark::Defines => before == Stop::Indexed,
         Mark::Assume => before == Stop::Operand,
         Mark::OpenParen => before == Stop::Parameter,
         Mark::OpenSquare => before == Stop::Defined,
@@ -64,6 +68,7 @@ fn is_refused(around: Around, before: Stop, mark: Mark) -> bool
     }
 }
 
+/// Whether an operand begins with a token of this mark.
 fn begins_operand(has_at: bool, mark: Mark) -> bool
     ensures { result ≡ spec.begins_operand has_at mark }
 {
@@ -103,6 +108,7 @@ fn deep_kind(begins: bool, is_refused: bool) -> Kind
 }
 
 impl<'a> Cursor<'a> {
+    /// At the first of these tokens.
     pub fn new(rest: &'a [Token]) -> Cursor<'a>
         ensures { result ≡ rest.now }
     {
@@ -127,6 +133,13 @@ impl<'a> Cursor<'a> {
             [] => Place { line: 1, column: 1 },
             [first, ..] => first.place,
         }
+    }
+
+    /// The next token; none where all are read.
+    pub fn token(&self) -> Option<&'a Token>
+        ensures { MatchOption result (self.now ≡ []) (λ t. self.now ≡ t.now ∷ spec.next self.now) }
+    {
+        self.rest.first()
     }
 
     /// The spelling of the next token, where it is a word or a sign.
@@ -195,7 +208,7 @@ impl<'a> Cursor<'a> {
                 setting.region < second.place.column,
                 same_mark(mark_of(&second.tok), mark),
             ),
-            _ => both(setting.region < 1, same_mark(Mark::Outside, mark)),
+            _ => both(setting.region < 1, same_mark(Mark::Eof, mark)),
         }
     }
 
@@ -220,7 +233,7 @@ impl<'a> Cursor<'a> {
         }
     }
 
-    /// The next token, which is read, has this mark.
+    /// Reads a token with this mark, if it comes next; answers whether it came.
     #[tactic(auto, unfolding(crate::specs::Input::after))]
     pub fn eat(&mut self, setting: Setting, mark: Mark) -> bool
         ensures found { result ≡ spec.sees setting mark self.old }
@@ -298,6 +311,16 @@ impl<'a> Cursor<'a> {
         })
     }
 
+    /// The fault at the next token, where a list has taken as many turns as there are tokens.
+    pub fn exhausted(&self) -> SynFault
+        ensures { result ≡ spec.exhausted self.now }
+    {
+        SynFault::At {
+            place: self.place(),
+            kind: Kind::Expected,
+        }
+    }
+
     /// Reads the opening sign of a bracket, where so many nestings may still begin.
     #[tactic(auto, unfolding(crate::specs::Input::opening))]
     pub fn opening(&mut self, left: usize) -> Result<Place, SynFault>
@@ -314,7 +337,7 @@ impl<'a> Cursor<'a> {
 
     /// Whether an expression may begin with the next token.
     #[tactic(auto, unfolding(crate::specs::Input::begins))]
-    fn begins(&self, setting: Setting) -> bool
+    pub fn begins(&self, setting: Setting) -> bool
         ensures { result ≡ spec.begins setting self.now }
     {
         self.is_inside(setting)

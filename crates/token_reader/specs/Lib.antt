@@ -1,0 +1,4 @@
+pub mod Marks
+pub mod Input
+pub mod Lists
+pub mod Laws
