@@ -36,8 +36,3 @@ EndIsExact = (ts : List Token) (from region depth : ℕ) (n : Node) (to : ℕ) �
 abbrev pub EndsBeforeTheLast : Type 0
 EndsBeforeTheLast = (ts : List Token) (from region depth : ℕ) (n : Node) (to : ℕ) → IsTokenList ts → IsReading ts from region depth n to
     → (from < to) × (to < length ts)
-
--- two readings at one place are the same
-abbrev pub OneReading : Type 0
-OneReading = (ts : List Token) (from region depth : ℕ) (a b : Node) (i j : ℕ) → IsReading ts from region depth a i → IsReading ts from region depth b j
-    → (a ≡ b) × (i ≡ j)

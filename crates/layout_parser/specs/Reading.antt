@@ -193,6 +193,14 @@ value = λ ts. Ok (node (form.Name (spelling (first ts).tok)) [] (here ts), next
 unfoldable pub literal : Reader Node
 literal = λ ts. Ok (node (literal_form (first ts).tok) [] (here ts), next ts)
 
+-- a further arm comes: a `[]` that is not that of OTHER, which is read
+abbrev pub further_arm : Setting → Reader Bool
+further_arm s = λ ts. if sees_second s m.Other ts then Ok (false, ts) else eat s m.Always ts
+
+-- the same sign comes next in the column of the bullets
+abbrev pub sees_bullet : Setting → Mark → Tokens → Bool
+sees_bullet s k ts = nat_eq (here ts).column s.region && same_mark (mark ts) k
+
 -- ---- the rules. `left` is how many nestings may still begin, and `inner` reads a chain in a further nesting.
 
 module _ (left : ℕ) (inner : ChainReader) where
@@ -476,12 +484,16 @@ module _ (left : ℕ) (inner : ChainReader) where
   unfoldable pub bound : Setting → Reader Group
   bound s = names s stop.Bound >>= bound_set s
 
+  -- one or more groups with sets, with commas between, after those found
+  abbrev pub further_bounds : Setting → List Group → Reader (List Group)
+  further_bounds s = separated s m.Comma (bound s)
+
   -- one or more groups with sets, of which the first has these names
   unfoldable pub bounds : Setting → List Decl → Reader (List Group)
   bounds s ns = do
     g ← bound_set s ns
     more ← eat s m.Comma
-    if more then separated s m.Comma (bound s) (g ∷ []) else pure (g ∷ [])
+    if more then further_bounds s (g ∷ []) else pure (g ∷ [])
 
   -- one or more groups with sets, or one group without a set where the `:` comes after its names
   unfoldable pub groups_of : Setting → List Decl → Reader (List Group)
@@ -533,9 +545,9 @@ module _ (left : ℕ) (inner : ChainReader) where
     e ← part s
     pure (guard, e)
 
-  -- a further arm comes: a `[]` that is not that of OTHER, which is read
-  abbrev pub further_arm : Setting → Reader Bool
-  further_arm s = λ ts. if sees_second s m.Other ts then Ok (false, ts) else eat s m.Always ts
+  -- one or more arms with `[]` between, up to that of OTHER
+  abbrev pub arms : Setting → Reader (List Node)
+  arms s = gathered (further_arm s) (arm s) with_arm []
 
   -- the value of OTHER, after the `[]`
   unfoldable pub other_arm : Setting → Reader Node
@@ -550,11 +562,11 @@ module _ (left : ℕ) (inner : ChainReader) where
       let with_other = ((λ e. node (form.Case true) (parts ++ e ∷ []) place) <$> other_arm s) (next ts) in
       if sees s m.Always ts then with_other else Ok (node (form.Case false) parts place, ts)
 
-  -- one or more arms with `[]` between, of which the last may be that of OTHER
+  -- one or more arms, of which the last may be that of OTHER
   unfoldable pub cases : Setting → Reader Node
   cases s = do
     place ← take
-    parts ← gathered (further_arm s) (arm s) with_arm []
+    parts ← arms s
     case_end s place parts
 
   -- the parameters of a definition in parentheses
@@ -596,10 +608,6 @@ module _ (left : ℕ) (inner : ChainReader) where
   -- a bullet and its item
   unfoldable pub bulleted : Setting → Reader Node
   bulleted s = take >> part s
-
-  -- the same sign comes next in the column of the bullets
-  abbrev pub sees_bullet : Setting → Mark → Tokens → Bool
-  sees_bullet s k ts = nat_eq (here ts).column s.region && same_mark (mark ts) k
 
   -- the items from a bullet on: each is an expression right of the bullets' column, and the list goes on exactly where the same
   -- sign comes next in that column

@@ -7,15 +7,13 @@ ghost use Rattle.layout_parser.specs.Reading as spec;
 ghost use Rattle.layout_parser.specs.Nests.{Nests, Flats, ended};
 
 use crate::build::{both, group, one, whole};
-use token_reader::Cursor;
 use crate::flat::Flat;
 use crate::grammar::Grammar;
-use token_reader::Mark;
-use token_reader::{Setting, Stop};
 use core_expr::Memory;
 use sqlite_items::Items;
 use std::alloc::Global;
 use tla_ast::{Decl, Form, Group, Node, SynFault};
+use token_reader::{Cursor, Mark, Setting, Stop, names};
 
 impl<F: Fn(Global, &mut Cursor<'_>, usize, usize, Setting, bool) -> Result<Flat, Memory>> Grammar<
     F,
@@ -126,11 +124,7 @@ impl<F: Fn(Global, &mut Cursor<'_>, usize, usize, Setting, bool) -> Result<Flat,
 
     /// The set of the name of a CHOOSE, and the `:`.
     #[tactic(auto, unfolding(crate::specs::Reading::domain))]
-    fn domain(
-        &self,
-        cursor: &mut Cursor<'_>,
-        setting: Setting,
-    ) -> Result<Option<Node>, SynFault>
+    fn domain(&self, cursor: &mut Cursor<'_>, setting: Setting) -> Result<Option<Node>, SynFault>
         requires { Nests self.now.left (F.pre self.now.read) (F.post self.now.read) }
         ensures { Reads (spec.domain self.now.left (spec.nested self.now.left) setting cursor.old) result cursor.new }
     {

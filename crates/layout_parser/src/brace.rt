@@ -8,17 +8,15 @@ ghost use Rattle.token_reader.specs.Input.{Reads, and_then};
 ghost use Rattle.layout_parser.specs.Reading as spec;
 ghost use Rattle.layout_parser.specs.Nests.{Nests, Flats, ended};
 
-use crate::build::{binary, leaf, unary, whole};
-use token_reader::Cursor;
+use crate::build::{binary, leaf, one, unary, whole};
 use crate::flat::Flat;
 use crate::grammar::{Grammar, finished};
-use token_reader::Mark;
 use crate::member::{Bound, element, ends_at, put_before};
-use token_reader::{Around, Setting, Stop};
 use core_expr::{Memory, Text};
 use operator_chain::Piece;
 use std::alloc::Global;
 use tla_ast::{Form, Node, Place, SynFault};
+use token_reader::{Around, Cursor, Mark, Setting, Stop};
 
 fn is_tuple(around: Around) -> bool
     ensures { result ≡ input.is_tuple around }

@@ -7,14 +7,13 @@ ghost use Rattle.layout_parser.specs.Reading as spec;
 ghost use Rattle.layout_parser.specs.Nests.{Nests, Flats, ended};
 
 use crate::build::{binary, both, leaf, whole};
-use token_reader::Cursor;
 use crate::flat::Flat;
 use crate::grammar::Grammar;
-use token_reader::Mark;
-use token_reader::{Around, Setting, Stop};
 use core_expr::{Memory, Text};
+use sqlite_items::Items;
 use std::alloc::Global;
 use tla_ast::{Form, Node, Place, SynFault};
+use token_reader::{Around, Cursor, Mark, Setting, Stop};
 
 impl<F: Fn(Global, &mut Cursor<'_>, usize, usize, Setting, bool) -> Result<Flat, Memory>> Grammar<
     F,
@@ -41,11 +40,7 @@ impl<F: Fn(Global, &mut Cursor<'_>, usize, usize, Setting, bool) -> Result<Flat,
 
     /// The arguments of a name.
     #[tactic(auto, unfolding(crate::specs::Reading::arguments))]
-    fn arguments(
-        &self,
-        cursor: &mut Cursor<'_>,
-        setting: Setting,
-    ) -> Result<Items<Node>, SynFault>
+    fn arguments(&self, cursor: &mut Cursor<'_>, setting: Setting) -> Result<Items<Node>, SynFault>
         requires { Nests self.now.left (F.pre self.now.read) (F.post self.now.read) }
         ensures { Reads (spec.arguments self.now.left (spec.nested self.now.left) setting cursor.old) result cursor.new }
     {
@@ -73,11 +68,7 @@ impl<F: Fn(Global, &mut Cursor<'_>, usize, usize, Setting, bool) -> Result<Flat,
 
     /// An expression in parentheses.
     #[tactic(auto, unfolding(crate::specs::Reading::parenthesized))]
-    pub fn parenthesized(
-        &self,
-        cursor: &mut Cursor<'_>,
-        setting: Setting,
-    ) -> Result<Node, SynFault>
+    pub fn parenthesized(&self, cursor: &mut Cursor<'_>, setting: Setting) -> Result<Node, SynFault>
         requires { Nests self.now.left (F.pre self.now.read) (F.post self.now.read) }
         ensures { Reads (spec.parenthesized self.now.left (spec.nested self.now.left) setting cursor.old) result cursor.new }
     {
@@ -106,11 +97,7 @@ impl<F: Fn(Global, &mut Cursor<'_>, usize, usize, Setting, bool) -> Result<Flat,
 
     /// A subscript: an identifier, a tuple or an expression in parentheses.
     #[tactic(auto, unfolding(crate::specs::Reading::subscript))]
-    pub fn subscript(
-        &self,
-        cursor: &mut Cursor<'_>,
-        setting: Setting,
-    ) -> Result<Node, SynFault>
+    pub fn subscript(&self, cursor: &mut Cursor<'_>, setting: Setting) -> Result<Node, SynFault>
         requires { Nests self.now.left (F.pre self.now.read) (F.post self.now.read) }
         ensures { Reads (spec.subscript self.now.left (spec.nested self.now.left) setting cursor.old) result cursor.new }
     {

@@ -43,12 +43,7 @@ pub fn one<T: Drop>(alloc: Global, item: T) -> Result<Items<T>, AllocError>
 }
 
 /// A node with one part.
-pub fn unary(
-    alloc: Global,
-    form: Form,
-    part: Node,
-    place: Place,
-) -> Result<Node, AllocError>
+pub fn unary(alloc: Global, form: Form, part: Node, place: Place) -> Result<Node, AllocError>
     ensures { IfOk result (λ n. n ≡ spec.node form (part ∷ []) place) }
 {
     let parts = one(alloc, part)?;
@@ -88,11 +83,7 @@ pub fn ternary(
 }
 
 /// Bound names with their set, if they have one.
-pub fn group(
-    alloc: Global,
-    names: Items<Decl>,
-    domain: Option<Node>,
-) -> Result<Group, AllocError>
+pub fn group(alloc: Global, names: Items<Decl>, domain: Option<Node>) -> Result<Group, AllocError>
     ensures { IfOk result (λ g. g ≡ spec.group names domain) }
 {
     match domain {

@@ -6,17 +6,16 @@ ghost use Rattle.token_reader.specs.Input.{Reads};
 ghost use Rattle.layout_parser.specs.Reading as spec;
 ghost use Rattle.layout_parser.specs.Nests.{Nests, Flats, ended};
 
-use crate::build::{either, whole};
-use token_reader::Cursor;
+use crate::build::{either, one, whole};
 use crate::flat::Flat;
 use crate::grammar::Grammar;
-use token_reader::Mark;
-use token_reader::{Setting, Stop};
 use core_expr::Memory;
 use operator_chain::{Ending, Piece};
+use sqlite_items::Items;
 use std::alloc::{AllocError, Global};
 use std::collections::VecDeque;
 use tla_ast::{Form, Key, Node, Path, Place, SynFault};
+use token_reader::{Cursor, Mark, Setting, Stop};
 
 /// The paths of updates, and the function with the new values.
 #[derive(Drop)]
@@ -123,11 +122,7 @@ impl<F: Fn(Global, &mut Cursor<'_>, usize, usize, Setting, bool) -> Result<Flat,
 
     /// One update: its path and the new value, in which `@` has a meaning.
     #[tactic(auto, unfolding(crate::specs::Reading::update))]
-    fn update(
-        &self,
-        cursor: &mut Cursor<'_>,
-        setting: Setting,
-    ) -> Result<(Path, Node), SynFault>
+    fn update(&self, cursor: &mut Cursor<'_>, setting: Setting) -> Result<(Path, Node), SynFault>
         requires { Nests self.now.left (F.pre self.now.read) (F.post self.now.read) }
         ensures { Reads (spec.update self.now.left (spec.nested self.now.left) setting cursor.old) result cursor.new }
     {

@@ -9,14 +9,13 @@ ghost use Rattle.token_reader.specs.Input.{Tokens, Reads};
 ghost use Rattle.layout_parser.specs.Reading as spec;
 ghost use Rattle.layout_parser.specs.Nests.{Nests, Flats, Steps, ended};
 
-use token_reader::Cursor;
 use crate::flat::{Flat, Step};
-use token_reader::{Setting, Stop};
 use core_expr::Memory;
 use operator_chain::{ChainFault, Piece, tree};
 use std::alloc::Global;
 use std::collections::VecDeque;
 use tla_ast::{Kind, Node, SynFault};
+use token_reader::{Cursor, Setting, Stop};
 
 /// The rules, where so many nestings may begin.
 #[derive(Clone, Copy)]

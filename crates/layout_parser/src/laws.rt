@@ -1,6 +1,6 @@
 //! Laws of readings, in the words of the language.
 
-ghost use Rattle.layout_parser.specs.Laws.{ReadInOrder, InsideTheRegion, EndIsExact, EndsBeforeTheLast, OneReading};
+ghost use Rattle.layout_parser.specs.Laws.{ReadInOrder, InsideTheRegion, EndIsExact, EndsBeforeTheLast};
 
 use operator_chain::one_right_tree;
 
@@ -33,8 +33,3 @@ pub fn ends_before_the_last()
 {
     one_right_tree();
 }
-
-/// There is one reading at most.
-pub fn one_reading()
-    ensures { OneReading }
-{}

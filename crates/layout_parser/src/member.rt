@@ -10,16 +10,14 @@ ghost use Rattle.layout_parser.specs.Reading as spec;
 ghost use Rattle.layout_parser.specs.Nests.{Nests, Flats, ended};
 
 use crate::build::leaf;
-use token_reader::Cursor;
 use crate::flat::Flat;
 use crate::grammar::{Grammar, finished};
-use token_reader::Mark;
-use token_reader::Setting;
 use core_expr::{Memory, Text};
 use operator_chain::{Operator, Piece};
 use std::alloc::Global;
 use std::collections::VecDeque;
 use tla_ast::{Form, Node, Place, SynFault};
+use token_reader::{Cursor, Mark, Setting};
 
 /// A name and the `\in` after it.
 #[derive(Drop)]

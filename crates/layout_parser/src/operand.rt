@@ -7,14 +7,13 @@ ghost use Rattle.layout_parser.specs.Reading as spec;
 ghost use Rattle.layout_parser.specs.Nests.{Nests, Flats, ended};
 
 use crate::build::{both, leaf, whole};
-use token_reader::Cursor;
 use crate::flat::Flat;
 use crate::grammar::Grammar;
-use token_reader::{Mark, same_mark};
-use token_reader::{Setting, Stop};
 use core_expr::{Memory, Text};
+use sqlite_items::Items;
 use std::alloc::Global;
 use tla_ast::{Form, Node, SynFault};
+use token_reader::{Cursor, Mark, Setting, Stop, same_mark};
 
 /// A word that is an operand by itself.
 #[tactic(auto, unfolding(crate::specs::Reading::value))]

@@ -2,12 +2,11 @@ ghost use Rattle.std.specs.Prelude.{◌<◌, ◌≤◌, length, IfOk};
 ghost use Rattle.tla_ast.specs.Listing.{IsTokenList};
 ghost use Rattle.layout_parser.specs.Reading as spec;
 
-use token_reader::Cursor;
 use crate::grammar::{finished, read_chain};
 use crate::laws::ends_before_the_last;
-use token_reader::{Around, Setting};
 use std::alloc::Global;
 use tla_ast::{Node, SynFault, Tokens};
+use token_reader::{Around, Cursor, Setting};
 
 /// How many nestings an expression may have round a token of it.
 pub const MOST_NESTINGS: u64 = 200;

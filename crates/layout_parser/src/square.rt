@@ -9,16 +9,14 @@ ghost use Rattle.layout_parser.specs.Reading as spec;
 ghost use Rattle.layout_parser.specs.Nests.{Nests, Flats, ended};
 
 use crate::build::{binary, leaf, whole};
-use token_reader::Cursor;
 use crate::flat::Flat;
 use crate::grammar::{Grammar, finished};
-use token_reader::Mark;
 use crate::member::{Bound, element, ends_at};
-use token_reader::{Around, Setting, Stop};
 use core_expr::{Memory, Text};
 use sqlite_items::Items;
 use std::alloc::Global;
 use tla_ast::{Decl, Form, Node, Place, SynFault};
+use token_reader::{Around, Cursor, Mark, Setting, Stop};
 
 /// Fields of a record with what they hold: the names, and per field a node of its name and the expression.
 #[derive(Drop)]

@@ -6,16 +6,14 @@ ghost use Rattle.token_reader.specs.Input.{Reads};
 ghost use Rattle.layout_parser.specs.Reading as spec;
 ghost use Rattle.layout_parser.specs.Nests.{Nests, Flats, Steps};
 
-use token_reader::Cursor;
 use crate::flat::{Flat, Step};
 use crate::grammar::{Grammar, told};
-use token_reader::Mark;
-use token_reader::{Around, Setting, Stop};
 use core_expr::{Memory, Text};
 use operator_chain::{Ending, Operator, Piece, Suffix, plain};
 use std::alloc::Global;
 use std_names::Fix;
 use tla_ast::{Node, Place, SynFault};
+use token_reader::{Around, Cursor, Mark, Setting, Stop};
 
 /// The operator that the next token is, in the region.
 fn operator_at(

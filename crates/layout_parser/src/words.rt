@@ -6,16 +6,14 @@ ghost use Rattle.token_reader.specs.Input.{Reads};
 ghost use Rattle.layout_parser.specs.Reading as spec;
 ghost use Rattle.layout_parser.specs.Nests.{Nests, Flats, ended};
 
-use crate::build::{ternary, whole};
-use token_reader::Cursor;
+use crate::build::{one, ternary, whole};
 use crate::flat::Flat;
 use crate::grammar::Grammar;
-use token_reader::Mark;
-use token_reader::{Around, Setting, Stop};
 use core_expr::Memory;
 use sqlite_items::{Boxed, Items};
 use std::alloc::Global;
-use tla_ast::{Decl, Def, Form, Node, SynFault};
+use tla_ast::{Decl, Def, Form, Node, Place, SynFault};
+use token_reader::{Around, Cursor, Mark, Setting, Stop, names};
 
 /// Reads the `[]` before a further arm, which is not that of OTHER; answers whether one comes.
 fn further_arm(cursor: &mut Cursor<'_>, setting: Setting) -> bool
@@ -29,11 +27,7 @@ impl<F: Fn(Global, &mut Cursor<'_>, usize, usize, Setting, bool) -> Result<Flat,
 > {
     /// IF.
     #[tactic(auto, unfolding(crate::specs::Reading::conditional))]
-    pub fn conditional(
-        &self,
-        cursor: &mut Cursor<'_>,
-        setting: Setting,
-    ) -> Result<Node, SynFault>
+    pub fn conditional(&self, cursor: &mut Cursor<'_>, setting: Setting) -> Result<Node, SynFault>
         requires { Nests self.now.left (F.pre self.now.read) (F.post self.now.read) }
         ensures { Reads (spec.conditional self.now.left (spec.nested self.now.left) setting cursor.old) result cursor.new }
     {
@@ -48,11 +42,7 @@ impl<F: Fn(Global, &mut Cursor<'_>, usize, usize, Setting, bool) -> Result<Flat,
 
     /// One arm of a CASE: its guard and its value.
     #[tactic(auto, unfolding(crate::specs::Reading::arm))]
-    fn arm(
-        &self,
-        cursor: &mut Cursor<'_>,
-        setting: Setting,
-    ) -> Result<(Node, Node), SynFault>
+    fn arm(&self, cursor: &mut Cursor<'_>, setting: Setting) -> Result<(Node, Node), SynFault>
         requires { Nests self.now.left (F.pre self.now.read) (F.post self.now.read) }
         ensures { Reads (spec.arm self.now.left (spec.nested self.now.left) setting cursor.old) result cursor.new }
     {
