@@ -2,3 +2,4 @@ pub mod Place
 pub mod Fault
 pub mod Word
 pub mod Listing
+pub mod Answers

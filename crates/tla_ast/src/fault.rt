@@ -1,3 +1,5 @@
+//! The faults of a text: their kinds, the order of the kinds and their texts.
+
 ghost use Rattle.std.specs.Prelude.{◌≡◌, ◌∷◌, ◌++◌, IfOk};
 ghost use Rattle.std.specs.Option.{option_copied};
 ghost use Rattle.tla_ast.specs.Fault.{rank, kind_text, name_of, carried};
@@ -158,90 +160,43 @@ impl Kind {
     }
 }
 
-/// A text that has no tokens, or want of memory.
+/// Why a text is no module, with the place of what is wrong, or want of memory. Every layer that reads a text answers this.
 #[derive(Debug, Drop)]
-pub enum LexFault {
+pub enum Fault {
     Memory,
     At { place: Place, kind: Kind },
 }
 
-impl From<Memory> for LexFault {
-    ghost use Rattle.std.specs.Prelude.{◌≡◌};
-    ghost use Rattle.tla_ast.specs.declared.fault.LexFault.TheVariants as fault;
-
-    ghost from_gives = { λ _ e. e ≡ fault.Memory };
-
-    fn from(_: Memory) -> LexFault {
-        LexFault::Memory
-    }
-}
-
-impl From<AllocError> for LexFault {
-    ghost use Rattle.std.specs.Prelude.{◌≡◌};
-    ghost use Rattle.tla_ast.specs.declared.fault.LexFault.TheVariants as fault;
-
-    ghost from_gives = { λ _ e. e ≡ fault.Memory };
-
-    fn from(_: AllocError) -> LexFault {
-        LexFault::Memory
-    }
-}
+/// A text that has no tokens, or want of memory.
+pub type LexFault = Fault;
 
 /// Tokens with no reading, or want of memory.
-#[derive(Debug, Drop)]
-pub enum SynFault {
-    Memory,
-    At { place: Place, kind: Kind },
-}
-
-impl From<Memory> for SynFault {
-    ghost use Rattle.std.specs.Prelude.{◌≡◌};
-    ghost use Rattle.tla_ast.specs.declared.fault.SynFault.TheVariants as fault;
-
-    ghost from_gives = { λ _ e. e ≡ fault.Memory };
-
-    fn from(_: Memory) -> SynFault {
-        SynFault::Memory
-    }
-}
-
-impl From<AllocError> for SynFault {
-    ghost use Rattle.std.specs.Prelude.{◌≡◌};
-    ghost use Rattle.tla_ast.specs.declared.fault.SynFault.TheVariants as fault;
-
-    ghost from_gives = { λ _ e. e ≡ fault.Memory };
-
-    fn from(_: AllocError) -> SynFault {
-        SynFault::Memory
-    }
-}
+pub type SynFault = Fault;
 
 /// A step's name that means nothing, or want of memory.
-#[derive(Debug, Drop)]
-pub enum OutlineFault {
-    Memory,
-    At { place: Place, kind: Kind },
-}
+pub type OutlineFault = Fault;
 
-impl From<Memory> for OutlineFault {
+impl From<Memory> for Fault {
     ghost use Rattle.std.specs.Prelude.{◌≡◌};
-    ghost use Rattle.tla_ast.specs.declared.fault.OutlineFault.TheVariants as fault;
+    ghost use Rattle.tla_ast.specs.declared.fault.Fault.TheVariants as fault;
 
     ghost from_gives = { λ _ e. e ≡ fault.Memory };
 
-    fn from(_: Memory) -> OutlineFault {
-        OutlineFault::Memory
+    /// Want of memory.
+    fn from(_: Memory) -> Fault {
+        Fault::Memory
     }
 }
 
-impl From<AllocError> for OutlineFault {
+impl From<AllocError> for Fault {
     ghost use Rattle.std.specs.Prelude.{◌≡◌};
-    ghost use Rattle.tla_ast.specs.declared.fault.OutlineFault.TheVariants as fault;
+    ghost use Rattle.tla_ast.specs.declared.fault.Fault.TheVariants as fault;
 
     ghost from_gives = { λ _ e. e ≡ fault.Memory };
 
-    fn from(_: AllocError) -> OutlineFault {
-        OutlineFault::Memory
+    /// Want of memory.
+    fn from(_: AllocError) -> Fault {
+        Fault::Memory
     }
 }
 
@@ -262,6 +217,7 @@ impl From<Memory> for ScopeFault {
 
     ghost from_gives = { λ _ e. e ≡ fault.Memory };
 
+    /// Want of memory.
     fn from(_: Memory) -> ScopeFault {
         ScopeFault::Memory
     }
@@ -273,6 +229,7 @@ impl From<AllocError> for ScopeFault {
 
     ghost from_gives = { λ _ e. e ≡ fault.Memory };
 
+    /// Want of memory.
     fn from(_: AllocError) -> ScopeFault {
         ScopeFault::Memory
     }

@@ -5,13 +5,15 @@
 #![tactic(auto)]
 
 mod fault;
+mod limit;
 mod place;
 mod token;
 mod tree;
 mod unit;
 mod word;
 
-pub use fault::{Kind, LexFault, OutlineFault, ScopeFault, SynFault};
+pub use fault::{Fault, Kind, LexFault, OutlineFault, ScopeFault, SynFault};
+pub use limit::{MOST_BYTES, MOST_MODULES, MOST_NESTINGS};
 pub use place::Place;
 pub use token::{Tok, Token, Tokens};
 pub use tree::{Decl, Def, Form, Group, Key, Node, Path};

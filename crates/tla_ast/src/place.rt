@@ -1,3 +1,5 @@
+//! Places in a text, and their order.
+
 ghost use Rattle.std.specs.Prelude.{◌≡◌};
 ghost use Rattle.tla_ast.specs.Place.{before, compare_places};
 

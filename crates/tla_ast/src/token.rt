@@ -1,3 +1,5 @@
+//! Tokens.
+
 use crate::place::Place;
 use core_expr::Text;
 use sqlite_items::Items;

@@ -1,3 +1,5 @@
+//! The syntax tree of expressions.
+
 use crate::place::Place;
 use core_expr::Text;
 use sqlite_items::{Boxed, Items};

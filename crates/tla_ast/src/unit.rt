@@ -1,3 +1,5 @@
+//! The syntax tree of a module: its units, statements and proofs.
+
 use crate::place::Place;
 use crate::tree::{Decl, Def, Group, Node};
 use core_expr::Text;
@@ -100,13 +102,15 @@ pub enum StepKind {
 pub enum UnitKind {
     Constants(Items<Decl>),
     Variables(Items<Decl>),
+    /// An ASSUME. Its name, where it has one, has arity 0 and the place of its own token.
     Assume {
-        name: Option<Text>,
+        name: Option<Decl>,
         body: Node,
     },
     Define(Def),
+    /// A theorem. Its name, where it has one, has arity 0 and the place of its own token.
     Theorem {
-        name: Option<Text>,
+        name: Option<Decl>,
         statement: Statement,
         proof: Proof,
     },
