@@ -6,7 +6,7 @@ use Rattle.std.proofs.lemmas.List.{take-append-drop, length-append, length-drop}
 use Rattle.std.proofs.lemmas.List.Elements.{All-nil, All-cons}
 use Rattle.std.proofs.Math.Seq.{drop-append_seam}
 use Rattle.tla_ast.specs.declared.token.Token.{Token}
-use Rattle.tla_ast.specs.declared.fault.SynFault.{SynFault}
+use Rattle.tla_ast.specs.declared.fault.Fault.{Fault}
 use Rattle.tla_ast.specs.declared.tree.Node.{Node}
 use Rattle.tla_ast.specs.Listing.{Ends}
 use Rattle.operator_chain.specs.declared.chain.Piece.{Piece}
@@ -57,10 +57,10 @@ record Told (ts : Tokens) (from region depth : ℕ) (n : Node) (to : ℕ) : Type
   pub to_is : length ts - length rest ≡ to
   pub read : Read region false (drop from ts) rest (expression region false n ∷ [])
 
-same-pair : (p q : Node × ℕ) → (let r : Result (Node × ℕ) SynFault = Ok p in r) ≡ Ok q → p ≡ q
+same-pair : (p q : Node × ℕ) → (let r : Result (Node × ℕ) Fault = Ok p in r) ≡ Ok q → p ≡ q
 same-pair p q e = ap of_ok e
   where
-    of_ok : Result (Node × ℕ) SynFault → Node × ℕ
+    of_ok : Result (Node × ℕ) Fault → Node × ℕ
     of_ok (Ok x) = x
     of_ok (Err f) = p
 

@@ -5,7 +5,7 @@ use Rattle.std_names.specs.Operators.{operator, prefix_rows, infix_rows}
 use Rattle.tla_ast.specs.declared.token.Token.{Token}
 use Rattle.tla_ast.specs.declared.token.Tok.TheVariants as tok
 use Rattle.tla_ast.specs.declared.place.Place.{Place}
-use Rattle.tla_ast.specs.declared.fault.SynFault.TheVariants as fault
+use Rattle.tla_ast.specs.declared.fault.Fault.TheVariants as fault
 use Rattle.tla_ast.specs.declared.fault.Kind.TheVariants as kind
 use Rattle.tla_ast.specs.declared.tree.Form.TheVariants as form
 use Rattle.tla_ast.specs.declared.tree.Node.{Node}

@@ -8,7 +8,7 @@ use Rattle.tla_ast.specs.declared.place.Place.{Place}
 use Rattle.tla_ast.specs.declared.token.Token.{Token}
 use Rattle.tla_ast.specs.declared.token.Tok.{Tok}
 use Rattle.tla_ast.specs.declared.token.Tok.TheVariants as tok
-use Rattle.tla_ast.specs.declared.fault.SynFault.{SynFault}
+use Rattle.tla_ast.specs.declared.fault.Fault.{Fault}
 use Rattle.tla_ast.specs.declared.tree.Node.{Node}
 use Rattle.tla_ast.specs.declared.tree.Decl.{Decl}
 use Rattle.tla_ast.specs.Listing.{is_last}
@@ -40,7 +40,7 @@ got {o = Ok p} e k = k p.0 p.1 refl e
 got {o = Err x} e k = absurd (cc)
 
 -- no outcome is a fault and a result
-pub refused : {A : Type 0} {f : SynFault} {a : A} {rest : Tokens} {X : Type 0} → (let x : Outcome A = Err f in x) ≡ Ok (a, rest) → X
+pub refused : {A : Type 0} {f : Fault} {a : A} {rest : Tokens} {X : Type 0} → (let x : Outcome A = Err f in x) ≡ Ok (a, rest) → X
 refused e = absurd (cc)
 
 -- what an outcome is
@@ -155,7 +155,7 @@ up-to {region} {has_at} {ts = ts} {ys = ys} e h = subst (λ l. Read region has_a
 -- ---- the small readers
 
 -- the token that a test asks is read
-pub is-next : {A : Type 0} {b : Bool} {x : A} (f : SynFault) {ts mid : Tokens} {a : A} → (let r : Outcome A = if b then Ok (x, ts) else Err f in r) ≡ Ok (a, mid) → (b ≡ true) × (x ≡ a) × (ts ≡ mid)
+pub is-next : {A : Type 0} {b : Bool} {x : A} (f : Fault) {ts mid : Tokens} {a : A} → (let r : Outcome A = if b then Ok (x, ts) else Err f in r) ≡ Ok (a, mid) → (b ≡ true) × (x ≡ a) × (ts ≡ mid)
 is-next {b = true} {x = x} f {ts = ts} {mid = mid} {a = a} e = (refl, (same-end x a ts mid e).0, (same-end x a ts mid e).1)
 is-next {b = false} f e = absurd (cc)
 
@@ -251,7 +251,7 @@ pub finish : (c : Chain) (n : Node) (rest : Tokens) → finished c ≡ Ok (n, re
 unfolding finished
 finish c n rest e = go (tree_of c.0) (fault_of c.0) c.1 refl refl e
   where
-    go : (o : Option Tree) (w : Option Place) (r : Result Tokens SynFault) → tree_of c.0 ≡ o → c.1 ≡ r → by_tree o w r ≡ Ok (n, rest) → Finished c n rest
+    go : (o : Option Tree) (w : Option Place) (r : Result Tokens Fault) → tree_of c.0 ≡ o → c.1 ≡ r → by_tree o w r ≡ Ok (n, rest) → Finished c n rest
     go (Some t) w (Ok us) is end e = let h = same-end (node_of t) n us rest e in
         record { tree = t; is = is; node = sym h.0; chain = λ i. (c.0, (end ∙ ap Ok h.1) i) }
     go (Some t) w (Err f) is end e = absurd (cc)

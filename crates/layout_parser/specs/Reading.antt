@@ -3,8 +3,8 @@ use Rattle.std.specs.Prelude.{◌≡◌, ◌≢◌, ℕ, zero, suc, ◌-◌, Boo
 use Rattle.tla_ast.specs.declared.place.Place.{Place}
 use Rattle.tla_ast.specs.declared.token.Token.{Token}
 use Rattle.tla_ast.specs.declared.fault.Kind.TheVariants.{Precedence}
-use Rattle.tla_ast.specs.declared.fault.SynFault.{SynFault}
-use Rattle.tla_ast.specs.declared.fault.SynFault.TheVariants as fault
+use Rattle.tla_ast.specs.declared.fault.Fault.{Fault}
+use Rattle.tla_ast.specs.declared.fault.Fault.TheVariants as fault
 use Rattle.tla_ast.specs.declared.tree.Node.{Node, roll-Node, out-Node}
 use Rattle.tla_ast.specs.declared.tree.Form.{Form, out-Form}
 use Rattle.tla_ast.specs.declared.tree.Form.TheVariants as form
@@ -50,14 +50,14 @@ group names domain = roll-Group (record { names = names; domain = domain })
 
 -- a chain as far as it was read, and how it ended: before these tokens, or at a fault
 abbrev pub Chain : Type 0
-Chain = List Piece × Result Tokens SynFault
+Chain = List Piece × Result Tokens Fault
 
 abbrev pub behind : List Piece → Chain → Chain
 behind xs c = (xs ++ c.0, c.1)
 
 -- A chain is read as its one right tree. A wrong operator stands before what ended the chain, so that its fault comes first; where
 -- the chain broke off, it counts with a plain operand where one must come.
-abbrev pub by_tree : Option Tree → Option Place → Result Tokens SynFault → Outcome Node
+abbrev pub by_tree : Option Tree → Option Place → Result Tokens Fault → Outcome Node
 by_tree (Some t) wrong (Ok rest) = Ok (node_of t, rest)
 by_tree (Some t) wrong (Err e) = Err e
 by_tree None (Some p) end = Err (fault.At p Precedence)
@@ -158,7 +158,7 @@ by_key s (xs, Ok rest) = refuse s stop.Other rest
 by_key s (xs, Err e) = Err e
 
 -- where a chain ends that has as many pieces as it may have
-abbrev pub full : Setting → Bool → Tokens → Result Tokens SynFault
+abbrev pub full : Setting → Bool → Tokens → Result Tokens Fault
 full s true ts = Err (refusal s stop.Operand ts)
 full s false ts = Ok ts
 
@@ -708,15 +708,15 @@ abbrev pub outermost : ℕ → Setting
 outermost region = record { region = region; around = around.Other; has_at = false }
 
 -- the node, and the place in the list of the token after it
-abbrev pub located : List Token → Outcome Node → Result (Node × ℕ) SynFault
+abbrev pub located : List Token → Outcome Node → Result (Node × ℕ) Fault
 located ts (Ok p) = Ok (p.0, length ts - length p.1)
 located ts (Err e) = Err e
 
 -- the reading of an expression that begins at a place of a list of tokens, in a region, with so many nestings round it
-unfoldable pub reading : List Token → ℕ → ℕ → ℕ → Result (Node × ℕ) SynFault
+unfoldable pub reading : List Token → ℕ → ℕ → ℕ → Result (Node × ℕ) Fault
 reading ts from region depth = located ts (expression depth (outermost region) (drop from ts))
 
 -- what a function that reads an expression ensures: this reading, unless memory fails
-abbrev pub Reads : Result (Node × ℕ) SynFault → Result (Node × ℕ) SynFault → Type 0
+abbrev pub Reads : Result (Node × ℕ) Fault → Result (Node × ℕ) Fault → Type 0
 Reads (Ok p) r = r ≡ Ok p
 Reads (Err e) r = e ≢ fault.Memory → r ≡ Err e

@@ -2,7 +2,7 @@
 
 ghost use Rattle.std.specs.Prelude.{◌≡◌};
 ghost use Rattle.token_reader.specs.Input as input;
-ghost use Rattle.token_reader.specs.Input.{Reads};
+ghost use Rattle.tla_ast.specs.Answers.{Reads};
 ghost use Rattle.layout_parser.specs.Reading as spec;
 ghost use Rattle.layout_parser.specs.Nests.{Nests, Flats, ended};
 
@@ -12,7 +12,7 @@ use crate::grammar::Grammar;
 use core_expr::Memory;
 use sqlite_items::Items;
 use std::alloc::Global;
-use tla_ast::{Decl, Form, Group, Node, SynFault};
+use tla_ast::{Decl, Form, Group, Node, Fault};
 use token_reader::{Cursor, Mark, Setting, Stop, names};
 
 impl<F: Fn(Global, &mut Cursor<'_>, usize, usize, Setting, bool) -> Result<Flat, Memory>> Grammar<
@@ -25,7 +25,7 @@ impl<F: Fn(Global, &mut Cursor<'_>, usize, usize, Setting, bool) -> Result<Flat,
         cursor: &mut Cursor<'_>,
         setting: Setting,
         names: Items<Decl>,
-    ) -> Result<Group, SynFault>
+    ) -> Result<Group, Fault>
         requires { Nests self.now.left (F.pre self.now.read) (F.post self.now.read) }
         ensures { Reads (spec.bound_set self.now.left (spec.nested self.now.left) setting names cursor.old) result cursor.new }
     {
@@ -36,7 +36,7 @@ impl<F: Fn(Global, &mut Cursor<'_>, usize, usize, Setting, bool) -> Result<Flat,
 
     /// A group of names with a set.
     #[tactic(auto, unfolding(crate::specs::Reading::bound))]
-    fn bound(&self, cursor: &mut Cursor<'_>, setting: Setting) -> Result<Group, SynFault>
+    fn bound(&self, cursor: &mut Cursor<'_>, setting: Setting) -> Result<Group, Fault>
         requires { Nests self.now.left (F.pre self.now.read) (F.post self.now.read) }
         ensures { Reads (spec.bound self.now.left (spec.nested self.now.left) setting cursor.old) result cursor.new }
     {
@@ -51,7 +51,7 @@ impl<F: Fn(Global, &mut Cursor<'_>, usize, usize, Setting, bool) -> Result<Flat,
         cursor: &mut Cursor<'_>,
         setting: Setting,
         mut found: Items<Group>,
-    ) -> Result<Items<Group>, SynFault>
+    ) -> Result<Items<Group>, Fault>
         requires { Nests self.now.left (F.pre self.now.read) (F.post self.now.read) }
         ensures { Reads (spec.further_bounds self.now.left (spec.nested self.now.left) setting found cursor.old) result cursor.new }
     {
@@ -71,7 +71,7 @@ impl<F: Fn(Global, &mut Cursor<'_>, usize, usize, Setting, bool) -> Result<Flat,
         cursor: &mut Cursor<'_>,
         setting: Setting,
         names: Items<Decl>,
-    ) -> Result<Items<Group>, SynFault>
+    ) -> Result<Items<Group>, Fault>
         requires { Nests self.now.left (F.pre self.now.read) (F.post self.now.read) }
         ensures { Reads (spec.bounds self.now.left (spec.nested self.now.left) setting names cursor.old) result cursor.new }
     {
@@ -91,7 +91,7 @@ impl<F: Fn(Global, &mut Cursor<'_>, usize, usize, Setting, bool) -> Result<Flat,
         cursor: &mut Cursor<'_>,
         setting: Setting,
         names: Items<Decl>,
-    ) -> Result<Items<Group>, SynFault>
+    ) -> Result<Items<Group>, Fault>
         requires { Nests self.now.left (F.pre self.now.read) (F.post self.now.read) }
         ensures { Reads (spec.groups_of self.now.left (spec.nested self.now.left) setting names cursor.old) result cursor.new }
     {
@@ -109,7 +109,7 @@ impl<F: Fn(Global, &mut Cursor<'_>, usize, usize, Setting, bool) -> Result<Flat,
         cursor: &mut Cursor<'_>,
         all: bool,
         setting: Setting,
-    ) -> Result<Node, SynFault>
+    ) -> Result<Node, Fault>
         requires { Nests self.now.left (F.pre self.now.read) (F.post self.now.read) }
         ensures { Reads (spec.quantifier self.now.left (spec.nested self.now.left) all setting cursor.old) result cursor.new }
     {
@@ -124,7 +124,7 @@ impl<F: Fn(Global, &mut Cursor<'_>, usize, usize, Setting, bool) -> Result<Flat,
 
     /// The set of the name of a CHOOSE, and the `:`.
     #[tactic(auto, unfolding(crate::specs::Reading::domain))]
-    fn domain(&self, cursor: &mut Cursor<'_>, setting: Setting) -> Result<Option<Node>, SynFault>
+    fn domain(&self, cursor: &mut Cursor<'_>, setting: Setting) -> Result<Option<Node>, Fault>
         requires { Nests self.now.left (F.pre self.now.read) (F.post self.now.read) }
         ensures { Reads (spec.domain self.now.left (spec.nested self.now.left) setting cursor.old) result cursor.new }
     {
@@ -139,7 +139,7 @@ impl<F: Fn(Global, &mut Cursor<'_>, usize, usize, Setting, bool) -> Result<Flat,
 
     /// CHOOSE.
     #[tactic(auto, unfolding(crate::specs::Reading::choose))]
-    pub fn choose(&self, cursor: &mut Cursor<'_>, setting: Setting) -> Result<Node, SynFault>
+    pub fn choose(&self, cursor: &mut Cursor<'_>, setting: Setting) -> Result<Node, Fault>
         requires { Nests self.now.left (F.pre self.now.read) (F.post self.now.read) }
         ensures { Reads (spec.choose self.now.left (spec.nested self.now.left) setting cursor.old) result cursor.new }
     {

@@ -4,7 +4,8 @@ ghost use Rattle.std.specs.Prelude.{◌≡◌, true};
 ghost use Rattle.token_reader.specs.Input as input;
 ghost use Rattle.operator_chain.specs.Chain.{IsChain};
 ghost use Rattle.operator_chain.specs.Listed.{AreListed};
-ghost use Rattle.token_reader.specs.Input.{Reads, and_then};
+ghost use Rattle.tla_ast.specs.Answers.{Reads};
+ghost use Rattle.token_reader.specs.Input.{and_then};
 ghost use Rattle.layout_parser.specs.Reading as spec;
 ghost use Rattle.layout_parser.specs.Nests.{Nests, Flats, ended};
 
@@ -15,7 +16,7 @@ use crate::member::{Bound, element, ends_at, put_before};
 use core_expr::{Memory, Text};
 use operator_chain::Piece;
 use std::alloc::Global;
-use tla_ast::{Form, Node, Place, SynFault};
+use tla_ast::{Form, Node, Place, Fault};
 use token_reader::{Around, Cursor, Mark, Setting, Stop};
 
 fn is_tuple(around: Around) -> bool
@@ -54,7 +55,7 @@ impl<F: Fn(Global, &mut Cursor<'_>, usize, usize, Setting, bool) -> Result<Flat,
         cursor: &mut Cursor<'_>,
         setting: Setting,
         value: Node,
-    ) -> Result<Node, SynFault>
+    ) -> Result<Node, Fault>
         requires { Nests self.now.left (F.pre self.now.read) (F.post self.now.read) }
         ensures { Reads (spec.image self.now.left (spec.nested self.now.left) setting value cursor.old) result cursor.new }
     {
@@ -75,7 +76,7 @@ impl<F: Fn(Global, &mut Cursor<'_>, usize, usize, Setting, bool) -> Result<Flat,
         name: Text,
         place: Place,
         set: Node,
-    ) -> Result<Node, SynFault>
+    ) -> Result<Node, Fault>
         requires { Nests self.now.left (F.pre self.now.read) (F.post self.now.read) }
         ensures { Reads (spec.filter self.now.left (spec.nested self.now.left) setting name place set cursor.old) result cursor.new }
     {
@@ -93,7 +94,7 @@ impl<F: Fn(Global, &mut Cursor<'_>, usize, usize, Setting, bool) -> Result<Flat,
         setting: Setting,
         place: Place,
         element: Node,
-    ) -> Result<Node, SynFault>
+    ) -> Result<Node, Fault>
         requires { Nests self.now.left (F.pre self.now.read) (F.post self.now.read) }
         ensures { Reads (spec.elements self.now.left (spec.nested self.now.left) setting place element cursor.old) result cursor.new }
     {
@@ -111,7 +112,7 @@ impl<F: Fn(Global, &mut Cursor<'_>, usize, usize, Setting, bool) -> Result<Flat,
         setting: Setting,
         place: Place,
         element: Node,
-    ) -> Result<Node, SynFault>
+    ) -> Result<Node, Fault>
         requires { Nests self.now.left (F.pre self.now.read) (F.post self.now.read) }
         ensures { Reads (spec.brace_end self.now.left (spec.nested self.now.left) setting place element cursor.old) result cursor.new }
     {
@@ -136,7 +137,7 @@ impl<F: Fn(Global, &mut Cursor<'_>, usize, usize, Setting, bool) -> Result<Flat,
         place: Place,
         bound: Bound,
         set: Flat,
-    ) -> Result<Node, SynFault>
+    ) -> Result<Node, Fault>
         requires nests { Nests self.now.left (F.pre self.now.read) (F.post self.now.read) }
         requires set { IsChain true set.pieces.items × AreListed set.pieces.items }
         ensures { Reads (and_then (spec.finished (spec.after_member bound.name bound.place bound.sign (set.pieces.items, ended set.fault cursor.old))) (spec.brace_end self.now.left (spec.nested self.now.left) setting place)) result cursor.new }
@@ -152,7 +153,7 @@ impl<F: Fn(Global, &mut Cursor<'_>, usize, usize, Setting, bool) -> Result<Flat,
         cursor: &mut Cursor<'_>,
         setting: Setting,
         place: Place,
-    ) -> Result<Node, SynFault>
+    ) -> Result<Node, Fault>
         requires { Nests self.now.left (F.pre self.now.read) (F.post self.now.read) }
         ensures { Reads (spec.member_brace self.now.left (spec.nested self.now.left) setting place cursor.old) result cursor.new }
     {
@@ -175,7 +176,7 @@ impl<F: Fn(Global, &mut Cursor<'_>, usize, usize, Setting, bool) -> Result<Flat,
         setting: Setting,
         place: Place,
         operand: Node,
-    ) -> Result<Node, SynFault>
+    ) -> Result<Node, Fault>
         requires { Nests self.now.left (F.pre self.now.read) (F.post self.now.read) }
         ensures { Reads (spec.tuple_brace_after self.now.left (spec.nested self.now.left) setting place operand cursor.old) result cursor.new }
     {
@@ -194,7 +195,7 @@ impl<F: Fn(Global, &mut Cursor<'_>, usize, usize, Setting, bool) -> Result<Flat,
         cursor: &mut Cursor<'_>,
         setting: Setting,
         place: Place,
-    ) -> Result<Node, SynFault>
+    ) -> Result<Node, Fault>
         requires { Nests self.now.left (F.pre self.now.read) (F.post self.now.read) }
         ensures { Reads (spec.tuple_brace self.now.left (spec.nested self.now.left) setting place cursor.old) result cursor.new }
     {
@@ -217,7 +218,7 @@ impl<F: Fn(Global, &mut Cursor<'_>, usize, usize, Setting, bool) -> Result<Flat,
         cursor: &mut Cursor<'_>,
         setting: Setting,
         place: Place,
-    ) -> Result<Node, SynFault>
+    ) -> Result<Node, Fault>
         requires { Nests self.now.left (F.pre self.now.read) (F.post self.now.read) }
         ensures { Reads (spec.brace_from self.now.left (spec.nested self.now.left) setting place cursor.old) result cursor.new }
     {
@@ -236,7 +237,7 @@ impl<F: Fn(Global, &mut Cursor<'_>, usize, usize, Setting, bool) -> Result<Flat,
 
     /// `{e, ..}`, `{x \in S : P}`, `{e : x \in S}`.
     #[tactic(auto, unfolding(crate::specs::Reading::brace))]
-    pub fn brace(&self, cursor: &mut Cursor<'_>, setting: Setting) -> Result<Node, SynFault>
+    pub fn brace(&self, cursor: &mut Cursor<'_>, setting: Setting) -> Result<Node, Fault>
         requires { Nests self.now.left (F.pre self.now.read) (F.post self.now.read) }
         ensures { Reads (spec.brace self.now.left (spec.nested self.now.left) setting cursor.old) result cursor.new }
     {

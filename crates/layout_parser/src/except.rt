@@ -2,7 +2,7 @@
 
 ghost use Rattle.std.specs.Prelude.{◌≡◌, Ok, IfOk, OnOk};
 ghost use Rattle.token_reader.specs.Input as input;
-ghost use Rattle.token_reader.specs.Input.{Reads};
+ghost use Rattle.tla_ast.specs.Answers.{Reads};
 ghost use Rattle.layout_parser.specs.Reading as spec;
 ghost use Rattle.layout_parser.specs.Nests.{Nests, Flats, ended};
 
@@ -14,7 +14,7 @@ use operator_chain::{Ending, Piece};
 use sqlite_items::Items;
 use std::alloc::{AllocError, Global};
 use std::collections::VecDeque;
-use tla_ast::{Form, Key, Node, Path, Place, SynFault};
+use tla_ast::{Form, Key, Node, Path, Place, Fault};
 use token_reader::{Cursor, Mark, Setting, Stop};
 
 /// The paths of updates, and the function with the new values.
@@ -60,7 +60,7 @@ fn key_of(
     cursor: &Cursor<'_>,
     setting: Setting,
     ending: Ending,
-) -> Result<Key, SynFault>
+) -> Result<Key, Fault>
     ensures { Reads (spec.by_ending setting ending cursor.now) result cursor.now }
 {
     match ending {
@@ -76,7 +76,7 @@ fn key_in(
     cursor: &Cursor<'_>,
     setting: Setting,
     mut pieces: VecDeque<Piece>,
-) -> Result<Key, SynFault>
+) -> Result<Key, Fault>
     ensures { Reads (spec.by_key setting (pieces.items, Ok cursor.now)) result cursor.now }
 {
     match (pieces.pop_front(), pieces.is_empty()) {
@@ -90,7 +90,7 @@ impl<F: Fn(Global, &mut Cursor<'_>, usize, usize, Setting, bool) -> Result<Flat,
 > {
     /// One key of a path.
     #[tactic(auto, unfolding(crate::specs::Reading::key_of))]
-    fn key(&self, cursor: &mut Cursor<'_>, setting: Setting) -> Result<Key, SynFault>
+    fn key(&self, cursor: &mut Cursor<'_>, setting: Setting) -> Result<Key, Fault>
         requires { Nests self.now.left (F.pre self.now.read) (F.post self.now.read) }
         ensures { Reads (spec.key_of self.now.left (spec.nested self.now.left) setting cursor.old) result cursor.new }
     {
@@ -106,7 +106,7 @@ impl<F: Fn(Global, &mut Cursor<'_>, usize, usize, Setting, bool) -> Result<Flat,
 
     /// One or more keys.
     #[tactic(auto, using(token_reader::proofs::Turns::turn), unfolding(token_reader::specs::Lists::gathered, token_reader::specs::Lists::gathered_from))]
-    fn keys(&self, cursor: &mut Cursor<'_>, setting: Setting) -> Result<Items<Key>, SynFault>
+    fn keys(&self, cursor: &mut Cursor<'_>, setting: Setting) -> Result<Items<Key>, Fault>
         requires { Nests self.now.left (F.pre self.now.read) (F.post self.now.read) }
         ensures { Reads (spec.keys self.now.left (spec.nested self.now.left) setting cursor.old) result cursor.new }
     {
@@ -122,7 +122,7 @@ impl<F: Fn(Global, &mut Cursor<'_>, usize, usize, Setting, bool) -> Result<Flat,
 
     /// One update: its path and the new value, in which `@` has a meaning.
     #[tactic(auto, unfolding(crate::specs::Reading::update))]
-    fn update(&self, cursor: &mut Cursor<'_>, setting: Setting) -> Result<(Path, Node), SynFault>
+    fn update(&self, cursor: &mut Cursor<'_>, setting: Setting) -> Result<(Path, Node), Fault>
         requires { Nests self.now.left (F.pre self.now.read) (F.post self.now.read) }
         ensures { Reads (spec.update self.now.left (spec.nested self.now.left) setting cursor.old) result cursor.new }
     {
@@ -140,7 +140,7 @@ impl<F: Fn(Global, &mut Cursor<'_>, usize, usize, Setting, bool) -> Result<Flat,
         cursor: &mut Cursor<'_>,
         setting: Setting,
         function: Node,
-    ) -> Result<Updates, SynFault>
+    ) -> Result<Updates, Fault>
         requires { Nests self.now.left (F.pre self.now.read) (F.post self.now.read) }
         ensures { Reads (spec.updates self.now.left (spec.nested self.now.left) setting function cursor.old) result cursor.new }
     {
@@ -163,7 +163,7 @@ impl<F: Fn(Global, &mut Cursor<'_>, usize, usize, Setting, bool) -> Result<Flat,
         setting: Setting,
         place: Place,
         function: Node,
-    ) -> Result<Node, SynFault>
+    ) -> Result<Node, Fault>
         requires { Nests self.now.left (F.pre self.now.read) (F.post self.now.read) }
         ensures { Reads (spec.except self.now.left (spec.nested self.now.left) setting place function cursor.old) result cursor.new }
     {

@@ -4,7 +4,8 @@ ghost use Rattle.std.specs.Prelude.{◌≡◌, ◌∷◌, true, IfOk, OnOk};
 ghost use Rattle.operator_chain.specs.Chain.{IsChain};
 ghost use Rattle.operator_chain.specs.Listed.{AreListed};
 ghost use Rattle.token_reader.specs.Input as input;
-ghost use Rattle.token_reader.specs.Input.{Tokens, Reads};
+ghost use Rattle.tla_ast.specs.Answers.{Reads};
+ghost use Rattle.token_reader.specs.Input.{Tokens};
 ghost use Rattle.token_reader.specs.Marks.{spelling};
 ghost use Rattle.layout_parser.specs.Reading as spec;
 ghost use Rattle.layout_parser.specs.Nests.{Nests, Flats, ended};
@@ -16,7 +17,7 @@ use core_expr::{Memory, Text};
 use operator_chain::{Operator, Piece};
 use std::alloc::Global;
 use std::collections::VecDeque;
-use tla_ast::{Form, Node, Place, SynFault};
+use tla_ast::{Form, Node, Place, Fault};
 use token_reader::{Cursor, Mark, Setting};
 
 /// A name and the `\in` after it.
@@ -65,7 +66,7 @@ impl Bound {
 }
 
 /// The expression that begins with a name and `\in` and goes on with this chain.
-pub fn element(alloc: Global, bound: Bound, set: Flat) -> Result<Node, SynFault>
+pub fn element(alloc: Global, bound: Bound, set: Flat) -> Result<Node, Fault>
     requires chain { IsChain true set.pieces.items }
     requires listed { AreListed set.pieces.items }
     ensures { (rest : Tokens) → Reads (spec.finished (spec.after_member bound.name bound.place bound.sign (set.pieces.items, ended set.fault rest))) result rest }

@@ -2,7 +2,7 @@
 
 ghost use Rattle.std.specs.Prelude.{◌≡◌, true, false};
 ghost use Rattle.token_reader.specs.Input as input;
-ghost use Rattle.token_reader.specs.Input.{Reads};
+ghost use Rattle.tla_ast.specs.Answers.{Reads};
 ghost use Rattle.layout_parser.specs.Reading as spec;
 ghost use Rattle.layout_parser.specs.Nests.{Nests, Flats, ended};
 
@@ -12,12 +12,12 @@ use crate::grammar::Grammar;
 use core_expr::{Memory, Text};
 use sqlite_items::Items;
 use std::alloc::Global;
-use tla_ast::{Form, Node, SynFault};
+use tla_ast::{Form, Node, Fault};
 use token_reader::{Cursor, Mark, Setting, Stop, same_mark};
 
 /// A word that is an operand by itself.
 #[tactic(auto, unfolding(crate::specs::Reading::value))]
-fn value(alloc: Global, cursor: &mut Cursor<'_>) -> Result<Node, SynFault>
+fn value(alloc: Global, cursor: &mut Cursor<'_>) -> Result<Node, Fault>
     ensures { Reads (spec.value cursor.old) result cursor.new }
 {
     let name = Text::of(alloc, cursor.spelling())?;
@@ -27,7 +27,7 @@ fn value(alloc: Global, cursor: &mut Cursor<'_>) -> Result<Node, SynFault>
 
 /// A number or a string.
 #[tactic(auto, unfolding(crate::specs::Reading::literal))]
-fn literal(alloc: Global, cursor: &mut Cursor<'_>) -> Result<Node, SynFault>
+fn literal(alloc: Global, cursor: &mut Cursor<'_>) -> Result<Node, Fault>
     ensures { Reads (spec.literal cursor.old) result cursor.new }
 {
     let form = cursor.literal(alloc)?;
@@ -50,7 +50,7 @@ impl<F: Fn(Global, &mut Cursor<'_>, usize, usize, Setting, bool) -> Result<Flat,
 > {
     /// A bullet and its item.
     #[tactic(auto, unfolding(crate::specs::Reading::bulleted))]
-    fn bulleted(&self, cursor: &mut Cursor<'_>, setting: Setting) -> Result<Node, SynFault>
+    fn bulleted(&self, cursor: &mut Cursor<'_>, setting: Setting) -> Result<Node, Fault>
         requires { Nests self.now.left (F.pre self.now.read) (F.post self.now.read) }
         ensures { Reads (spec.bulleted self.now.left (spec.nested self.now.left) setting cursor.old) result cursor.new }
     {
@@ -65,7 +65,7 @@ impl<F: Fn(Global, &mut Cursor<'_>, usize, usize, Setting, bool) -> Result<Flat,
         cursor: &mut Cursor<'_>,
         setting: Setting,
         mark: Mark,
-    ) -> Result<Items<Node>, SynFault>
+    ) -> Result<Items<Node>, Fault>
         requires { Nests self.now.left (F.pre self.now.read) (F.post self.now.read) }
         ensures { Reads (spec.items self.now.left (spec.nested self.now.left) setting mark cursor.old) result cursor.new }
     {
@@ -87,7 +87,7 @@ impl<F: Fn(Global, &mut Cursor<'_>, usize, usize, Setting, bool) -> Result<Flat,
         all: bool,
         mark: Mark,
         setting: Setting,
-    ) -> Result<Node, SynFault>
+    ) -> Result<Node, Fault>
         requires { Nests self.now.left (F.pre self.now.read) (F.post self.now.read) }
         ensures { Reads (spec.junction self.now.left (spec.nested self.now.left) all mark setting cursor.old) result cursor.new }
     {
@@ -98,7 +98,7 @@ impl<F: Fn(Global, &mut Cursor<'_>, usize, usize, Setting, bool) -> Result<Flat,
 
     /// `@`, which is an operand in a new value of an EXCEPT alone.
     #[tactic(auto, unfolding(crate::specs::Reading::at))]
-    fn at(&self, cursor: &mut Cursor<'_>, setting: Setting) -> Result<Node, SynFault>
+    fn at(&self, cursor: &mut Cursor<'_>, setting: Setting) -> Result<Node, Fault>
         requires { Nests self.now.left (F.pre self.now.read) (F.post self.now.read) }
         ensures { Reads (spec.at self.now.left (spec.nested self.now.left) setting cursor.old) result cursor.new }
     {
@@ -110,7 +110,7 @@ impl<F: Fn(Global, &mut Cursor<'_>, usize, usize, Setting, bool) -> Result<Flat,
     }
 
     /// An operand by the mark of its first token.
-    fn operand_by(&self, cursor: &mut Cursor<'_>, setting: Setting) -> Result<Node, SynFault>
+    fn operand_by(&self, cursor: &mut Cursor<'_>, setting: Setting) -> Result<Node, Fault>
         requires { Nests self.now.left (F.pre self.now.read) (F.post self.now.read) }
         ensures { Reads (spec.operand_by self.now.left (spec.nested self.now.left) setting (input.mark cursor.old) cursor.old) result cursor.new }
     {
@@ -140,7 +140,7 @@ impl<F: Fn(Global, &mut Cursor<'_>, usize, usize, Setting, bool) -> Result<Flat,
 
     /// An operand.
     #[tactic(auto, unfolding(crate::specs::Reading::operand))]
-    pub fn operand(&self, cursor: &mut Cursor<'_>, setting: Setting) -> Result<Node, SynFault>
+    pub fn operand(&self, cursor: &mut Cursor<'_>, setting: Setting) -> Result<Node, Fault>
         requires { Nests self.now.left (F.pre self.now.read) (F.post self.now.read) }
         ensures { Reads (spec.operand self.now.left (spec.nested self.now.left) setting cursor.old) result cursor.new }
     {

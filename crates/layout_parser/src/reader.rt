@@ -5,7 +5,7 @@ ghost use Rattle.layout_parser.specs.Reading as spec;
 use crate::grammar::{finished, read_chain};
 use crate::laws::ends_before_the_last;
 use std::alloc::Global;
-use tla_ast::{Node, SynFault, Tokens};
+use tla_ast::{Node, Fault, Tokens};
 use token_reader::{Around, Cursor, Setting};
 
 /// How many nestings an expression may have round a token of it.
@@ -28,7 +28,7 @@ pub fn read_expr(
     from: u64,
     region: u64,
     depth: u64,
-) -> Result<(Node, u64), SynFault>
+) -> Result<(Node, u64), Fault>
     requires within { from < length tokens.now.list }
     requires nested { depth ≤ 200 }
     requires list { IsTokenList tokens.now.list }

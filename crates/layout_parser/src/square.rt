@@ -4,7 +4,8 @@ ghost use Rattle.std.specs.Prelude.{◌≡◌, true, OnOk};
 ghost use Rattle.token_reader.specs.Input as input;
 ghost use Rattle.operator_chain.specs.Chain.{IsChain};
 ghost use Rattle.operator_chain.specs.Listed.{AreListed};
-ghost use Rattle.token_reader.specs.Input.{Reads, and_then};
+ghost use Rattle.tla_ast.specs.Answers.{Reads};
+ghost use Rattle.token_reader.specs.Input.{and_then};
 ghost use Rattle.layout_parser.specs.Reading as spec;
 ghost use Rattle.layout_parser.specs.Nests.{Nests, Flats, ended};
 
@@ -15,7 +16,7 @@ use crate::member::{Bound, element, ends_at};
 use core_expr::{Memory, Text};
 use sqlite_items::Items;
 use std::alloc::Global;
-use tla_ast::{Decl, Form, Node, Place, SynFault};
+use tla_ast::{Decl, Form, Node, Place, Fault};
 use token_reader::{Around, Cursor, Mark, Setting, Stop};
 
 /// Fields of a record with what they hold: the names, and per field a node of its name and the expression.
@@ -57,7 +58,7 @@ impl<F: Fn(Global, &mut Cursor<'_>, usize, usize, Setting, bool) -> Result<Flat,
         cursor: &mut Cursor<'_>,
         setting: Setting,
         mark: Mark,
-    ) -> Result<(Decl, Node), SynFault>
+    ) -> Result<(Decl, Node), Fault>
         requires { Nests self.now.left (F.pre self.now.read) (F.post self.now.read) }
         ensures { Reads (spec.field_of self.now.left (spec.nested self.now.left) setting mark cursor.old) result cursor.new }
     {
@@ -74,7 +75,7 @@ impl<F: Fn(Global, &mut Cursor<'_>, usize, usize, Setting, bool) -> Result<Flat,
         cursor: &mut Cursor<'_>,
         setting: Setting,
         mark: Mark,
-    ) -> Result<Fields, SynFault>
+    ) -> Result<Fields, Fault>
         requires { Nests self.now.left (F.pre self.now.read) (F.post self.now.read) }
         ensures { Reads (spec.fields self.now.left (spec.nested self.now.left) setting mark cursor.old) result cursor.new }
     {
@@ -96,7 +97,7 @@ impl<F: Fn(Global, &mut Cursor<'_>, usize, usize, Setting, bool) -> Result<Flat,
         cursor: &mut Cursor<'_>,
         setting: Setting,
         place: Place,
-    ) -> Result<Node, SynFault>
+    ) -> Result<Node, Fault>
         requires { Nests self.now.left (F.pre self.now.read) (F.post self.now.read) }
         ensures { Reads (spec.record_of self.now.left (spec.nested self.now.left) setting place cursor.old) result cursor.new }
     {
@@ -112,7 +113,7 @@ impl<F: Fn(Global, &mut Cursor<'_>, usize, usize, Setting, bool) -> Result<Flat,
         cursor: &mut Cursor<'_>,
         setting: Setting,
         place: Place,
-    ) -> Result<Node, SynFault>
+    ) -> Result<Node, Fault>
         requires { Nests self.now.left (F.pre self.now.read) (F.post self.now.read) }
         ensures { Reads (spec.record_set self.now.left (spec.nested self.now.left) setting place cursor.old) result cursor.new }
     {
@@ -129,7 +130,7 @@ impl<F: Fn(Global, &mut Cursor<'_>, usize, usize, Setting, bool) -> Result<Flat,
         setting: Setting,
         place: Place,
         domain: Node,
-    ) -> Result<Node, SynFault>
+    ) -> Result<Node, Fault>
         requires { Nests self.now.left (F.pre self.now.read) (F.post self.now.read) }
         ensures { Reads (spec.function_set self.now.left (spec.nested self.now.left) setting place domain cursor.old) result cursor.new }
     {
@@ -147,7 +148,7 @@ impl<F: Fn(Global, &mut Cursor<'_>, usize, usize, Setting, bool) -> Result<Flat,
         setting: Setting,
         place: Place,
         first: Node,
-    ) -> Result<Node, SynFault>
+    ) -> Result<Node, Fault>
         requires { Nests self.now.left (F.pre self.now.read) (F.post self.now.read) }
         ensures { Reads (spec.square_end self.now.left (spec.nested self.now.left) outer setting place first cursor.old) result cursor.new }
     {
@@ -173,7 +174,7 @@ impl<F: Fn(Global, &mut Cursor<'_>, usize, usize, Setting, bool) -> Result<Flat,
         name: Text,
         place: Place,
         set: Node,
-    ) -> Result<Node, SynFault>
+    ) -> Result<Node, Fault>
         requires { Nests self.now.left (F.pre self.now.read) (F.post self.now.read) }
         ensures { Reads (spec.function self.now.left (spec.nested self.now.left) setting name place set cursor.old) result cursor.new }
     {
@@ -191,7 +192,7 @@ impl<F: Fn(Global, &mut Cursor<'_>, usize, usize, Setting, bool) -> Result<Flat,
         place: Place,
         bound: Bound,
         set: Flat,
-    ) -> Result<Node, SynFault>
+    ) -> Result<Node, Fault>
         requires nests { Nests self.now.left (F.pre self.now.read) (F.post self.now.read) }
         requires set { IsChain true set.pieces.items × AreListed set.pieces.items }
         ensures { Reads (and_then (spec.finished (spec.after_member bound.name bound.place bound.sign (set.pieces.items, ended set.fault cursor.old))) (spec.square_end self.now.left (spec.nested self.now.left) outer setting place)) result cursor.new }
@@ -208,7 +209,7 @@ impl<F: Fn(Global, &mut Cursor<'_>, usize, usize, Setting, bool) -> Result<Flat,
         outer: Around,
         setting: Setting,
         place: Place,
-    ) -> Result<Node, SynFault>
+    ) -> Result<Node, Fault>
         requires { Nests self.now.left (F.pre self.now.read) (F.post self.now.read) }
         ensures { Reads (spec.member_square self.now.left (spec.nested self.now.left) outer setting place cursor.old) result cursor.new }
     {
@@ -231,7 +232,7 @@ impl<F: Fn(Global, &mut Cursor<'_>, usize, usize, Setting, bool) -> Result<Flat,
         outer: Around,
         setting: Setting,
         place: Place,
-    ) -> Result<Node, SynFault>
+    ) -> Result<Node, Fault>
         requires { Nests self.now.left (F.pre self.now.read) (F.post self.now.read) }
         ensures { Reads (spec.square_name self.now.left (spec.nested self.now.left) outer setting place cursor.old) result cursor.new }
     {
@@ -256,7 +257,7 @@ impl<F: Fn(Global, &mut Cursor<'_>, usize, usize, Setting, bool) -> Result<Flat,
         outer: Around,
         setting: Setting,
         place: Place,
-    ) -> Result<Node, SynFault>
+    ) -> Result<Node, Fault>
         requires { Nests self.now.left (F.pre self.now.read) (F.post self.now.read) }
         ensures { Reads (spec.square_from self.now.left (spec.nested self.now.left) outer setting place cursor.old) result cursor.new }
     {
@@ -269,7 +270,7 @@ impl<F: Fn(Global, &mut Cursor<'_>, usize, usize, Setting, bool) -> Result<Flat,
 
     /// Functions, records, their sets, EXCEPT and `[A]_v`.
     #[tactic(auto, unfolding(crate::specs::Reading::square))]
-    pub fn square(&self, cursor: &mut Cursor<'_>, setting: Setting) -> Result<Node, SynFault>
+    pub fn square(&self, cursor: &mut Cursor<'_>, setting: Setting) -> Result<Node, Fault>
         requires { Nests self.now.left (F.pre self.now.read) (F.post self.now.read) }
         ensures { Reads (spec.square self.now.left (spec.nested self.now.left) setting cursor.old) result cursor.new }
     {

@@ -2,7 +2,7 @@
 
 ghost use Rattle.std.specs.Prelude.{◌≡◌, ◌≢◌, Ok, Err, IfOk, Some, None};
 ghost use Rattle.token_reader.specs.Input as input;
-ghost use Rattle.token_reader.specs.Input.{Reads};
+ghost use Rattle.tla_ast.specs.Answers.{Reads};
 ghost use Rattle.layout_parser.specs.Reading as spec;
 ghost use Rattle.layout_parser.specs.Nests.{Nests, Flats, Steps};
 
@@ -12,7 +12,7 @@ use core_expr::{Memory, Text};
 use operator_chain::{Ending, Operator, Piece, Suffix, plain};
 use std::alloc::Global;
 use std_names::Fix;
-use tla_ast::{Node, Place, SynFault};
+use tla_ast::{Node, Place, Fault};
 use token_reader::{Around, Cursor, Mark, Setting, Stop};
 
 /// The operator that the next token is, in the region.
@@ -83,7 +83,7 @@ impl<F: Fn(Global, &mut Cursor<'_>, usize, usize, Setting, bool) -> Result<Flat,
 > {
     /// The argument of `f[e]`.
     #[tactic(auto, unfolding(crate::specs::Reading::index))]
-    fn index(&self, cursor: &mut Cursor<'_>, setting: Setting) -> Result<Node, SynFault>
+    fn index(&self, cursor: &mut Cursor<'_>, setting: Setting) -> Result<Node, Fault>
         requires { Nests self.now.left (F.pre self.now.read) (F.post self.now.read) }
         ensures { Reads (spec.index self.now.left (spec.nested self.now.left) setting cursor.old) result cursor.new }
     {

@@ -2,7 +2,7 @@
 
 ghost use Rattle.std.specs.Prelude.{◌≡◌};
 ghost use Rattle.token_reader.specs.Input as input;
-ghost use Rattle.token_reader.specs.Input.{Reads};
+ghost use Rattle.tla_ast.specs.Answers.{Reads};
 ghost use Rattle.layout_parser.specs.Reading as spec;
 ghost use Rattle.layout_parser.specs.Nests.{Nests, Flats, ended};
 
@@ -12,7 +12,7 @@ use crate::grammar::Grammar;
 use core_expr::Memory;
 use sqlite_items::{Boxed, Items};
 use std::alloc::Global;
-use tla_ast::{Decl, Def, Form, Node, Place, SynFault};
+use tla_ast::{Decl, Def, Form, Node, Place, Fault};
 use token_reader::{Around, Cursor, Mark, Setting, Stop, names};
 
 /// Reads the `[]` before a further arm, which is not that of OTHER; answers whether one comes.
@@ -27,7 +27,7 @@ impl<F: Fn(Global, &mut Cursor<'_>, usize, usize, Setting, bool) -> Result<Flat,
 > {
     /// IF.
     #[tactic(auto, unfolding(crate::specs::Reading::conditional))]
-    pub fn conditional(&self, cursor: &mut Cursor<'_>, setting: Setting) -> Result<Node, SynFault>
+    pub fn conditional(&self, cursor: &mut Cursor<'_>, setting: Setting) -> Result<Node, Fault>
         requires { Nests self.now.left (F.pre self.now.read) (F.post self.now.read) }
         ensures { Reads (spec.conditional self.now.left (spec.nested self.now.left) setting cursor.old) result cursor.new }
     {
@@ -42,7 +42,7 @@ impl<F: Fn(Global, &mut Cursor<'_>, usize, usize, Setting, bool) -> Result<Flat,
 
     /// One arm of a CASE: its guard and its value.
     #[tactic(auto, unfolding(crate::specs::Reading::arm))]
-    fn arm(&self, cursor: &mut Cursor<'_>, setting: Setting) -> Result<(Node, Node), SynFault>
+    fn arm(&self, cursor: &mut Cursor<'_>, setting: Setting) -> Result<(Node, Node), Fault>
         requires { Nests self.now.left (F.pre self.now.read) (F.post self.now.read) }
         ensures { Reads (spec.arm self.now.left (spec.nested self.now.left) setting cursor.old) result cursor.new }
     {
@@ -54,7 +54,7 @@ impl<F: Fn(Global, &mut Cursor<'_>, usize, usize, Setting, bool) -> Result<Flat,
 
     /// One or more arms with `[]` between, up to that of OTHER.
     #[tactic(auto, using(token_reader::proofs::Turns::turn), unfolding(token_reader::specs::Lists::gathered, token_reader::specs::Lists::gathered_from))]
-    fn arms(&self, cursor: &mut Cursor<'_>, setting: Setting) -> Result<Items<Node>, SynFault>
+    fn arms(&self, cursor: &mut Cursor<'_>, setting: Setting) -> Result<Items<Node>, Fault>
         requires { Nests self.now.left (F.pre self.now.read) (F.post self.now.read) }
         ensures { Reads (spec.arms self.now.left (spec.nested self.now.left) setting cursor.old) result cursor.new }
     {
@@ -72,7 +72,7 @@ impl<F: Fn(Global, &mut Cursor<'_>, usize, usize, Setting, bool) -> Result<Flat,
 
     /// The value of OTHER, after the `[]`.
     #[tactic(auto, unfolding(crate::specs::Reading::other_arm))]
-    fn other_arm(&self, cursor: &mut Cursor<'_>, setting: Setting) -> Result<Node, SynFault>
+    fn other_arm(&self, cursor: &mut Cursor<'_>, setting: Setting) -> Result<Node, Fault>
         requires { Nests self.now.left (F.pre self.now.read) (F.post self.now.read) }
         ensures { Reads (spec.other_arm self.now.left (spec.nested self.now.left) setting cursor.old) result cursor.new }
     {
@@ -89,7 +89,7 @@ impl<F: Fn(Global, &mut Cursor<'_>, usize, usize, Setting, bool) -> Result<Flat,
         setting: Setting,
         place: Place,
         mut parts: Items<Node>,
-    ) -> Result<Node, SynFault>
+    ) -> Result<Node, Fault>
         requires { Nests self.now.left (F.pre self.now.read) (F.post self.now.read) }
         ensures { Reads (spec.case_end self.now.left (spec.nested self.now.left) setting place parts cursor.old) result cursor.new }
     {
@@ -102,7 +102,7 @@ impl<F: Fn(Global, &mut Cursor<'_>, usize, usize, Setting, bool) -> Result<Flat,
 
     /// CASE.
     #[tactic(auto, unfolding(crate::specs::Reading::cases))]
-    pub fn cases(&self, cursor: &mut Cursor<'_>, setting: Setting) -> Result<Node, SynFault>
+    pub fn cases(&self, cursor: &mut Cursor<'_>, setting: Setting) -> Result<Node, Fault>
         requires { Nests self.now.left (F.pre self.now.read) (F.post self.now.read) }
         ensures { Reads (spec.cases self.now.left (spec.nested self.now.left) setting cursor.old) result cursor.new }
     {
@@ -113,7 +113,7 @@ impl<F: Fn(Global, &mut Cursor<'_>, usize, usize, Setting, bool) -> Result<Flat,
 
     /// The parameters of a definition in parentheses.
     #[tactic(auto, unfolding(crate::specs::Reading::parameters))]
-    fn parameters(&self, cursor: &mut Cursor<'_>, setting: Setting) -> Result<Items<Decl>, SynFault>
+    fn parameters(&self, cursor: &mut Cursor<'_>, setting: Setting) -> Result<Items<Decl>, Fault>
         requires { Nests self.now.left (F.pre self.now.read) (F.post self.now.read) }
         ensures { Reads (spec.parameters self.now.left (spec.nested self.now.left) setting cursor.old) result cursor.new }
     {
@@ -126,7 +126,7 @@ impl<F: Fn(Global, &mut Cursor<'_>, usize, usize, Setting, bool) -> Result<Flat,
 
     /// What a definition has before its right side: the parameters, if any, and the `==`.
     #[tactic(auto, unfolding(crate::specs::Reading::head))]
-    fn head(&self, cursor: &mut Cursor<'_>, setting: Setting) -> Result<Items<Decl>, SynFault>
+    fn head(&self, cursor: &mut Cursor<'_>, setting: Setting) -> Result<Items<Decl>, Fault>
         requires { Nests self.now.left (F.pre self.now.read) (F.post self.now.read) }
         ensures { Reads (spec.head self.now.left (spec.nested self.now.left) setting cursor.old) result cursor.new }
     {
@@ -141,7 +141,7 @@ impl<F: Fn(Global, &mut Cursor<'_>, usize, usize, Setting, bool) -> Result<Flat,
 
     /// A definition.
     #[tactic(auto, unfolding(crate::specs::Reading::definition))]
-    fn definition(&self, cursor: &mut Cursor<'_>, setting: Setting) -> Result<Def, SynFault>
+    fn definition(&self, cursor: &mut Cursor<'_>, setting: Setting) -> Result<Def, Fault>
         requires { Nests self.now.left (F.pre self.now.read) (F.post self.now.read) }
         ensures { Reads (spec.definition self.now.left (spec.nested self.now.left) setting cursor.old) result cursor.new }
     {
@@ -163,7 +163,7 @@ impl<F: Fn(Global, &mut Cursor<'_>, usize, usize, Setting, bool) -> Result<Flat,
 
     /// One or more definitions.
     #[tactic(auto, using(token_reader::proofs::Turns::turn), unfolding(token_reader::specs::Lists::gathered, token_reader::specs::Lists::gathered_from))]
-    fn definitions(&self, cursor: &mut Cursor<'_>, setting: Setting) -> Result<Items<Def>, SynFault>
+    fn definitions(&self, cursor: &mut Cursor<'_>, setting: Setting) -> Result<Items<Def>, Fault>
         requires { Nests self.now.left (F.pre self.now.read) (F.post self.now.read) }
         ensures { Reads (spec.definitions self.now.left (spec.nested self.now.left) setting cursor.old) result cursor.new }
     {
@@ -179,7 +179,7 @@ impl<F: Fn(Global, &mut Cursor<'_>, usize, usize, Setting, bool) -> Result<Flat,
 
     /// LET.
     #[tactic(auto, unfolding(crate::specs::Reading::local))]
-    pub fn local(&self, cursor: &mut Cursor<'_>, setting: Setting) -> Result<Node, SynFault>
+    pub fn local(&self, cursor: &mut Cursor<'_>, setting: Setting) -> Result<Node, Fault>
         requires { Nests self.now.left (F.pre self.now.read) (F.post self.now.read) }
         ensures { Reads (spec.local self.now.left (spec.nested self.now.left) setting cursor.old) result cursor.new }
     {

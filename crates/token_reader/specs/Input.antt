@@ -1,13 +1,13 @@
 -- The tokens that are left, and the steps that every rule is made of.
-use Rattle.std.specs.Prelude.{◌≡◌, ◌≢◌, ℕ, zero, suc, Bool, true, false, ◌&&◌, ◌||◌, if◌then◌else◌, nat_lt, List, [], ◌∷◌, Result, Ok, Err}
+use Rattle.std.specs.Prelude.{ℕ, zero, suc, Bool, true, false, ◌&&◌, ◌||◌, if◌then◌else◌, nat_lt, List, [], ◌∷◌, Result, Ok, Err}
 use Rattle.tla_ast.specs.declared.place.Place.{Place}
 use Rattle.tla_ast.specs.declared.token.Token.{Token}
 use Rattle.tla_ast.specs.declared.token.Tok.{Tok}
 use Rattle.tla_ast.specs.declared.token.Tok.TheVariants as tok
 use Rattle.tla_ast.specs.declared.fault.Kind.{Kind}
 use Rattle.tla_ast.specs.declared.fault.Kind.TheVariants.{Expected, TooDeep, Unsupported}
-use Rattle.tla_ast.specs.declared.fault.SynFault.{SynFault}
-use Rattle.tla_ast.specs.declared.fault.SynFault.TheVariants as fault
+use Rattle.tla_ast.specs.declared.fault.Fault.{Fault}
+use Rattle.tla_ast.specs.declared.fault.Fault.TheVariants as fault
 use Rattle.std.specs.Option.{is_some}
 use Rattle.tla_ast.specs.declared.tree.Decl.{Decl}
 use Rattle.tla_ast.specs.declared.tree.Form.{Form}
@@ -127,13 +127,13 @@ abbrev pub kind_at : Setting → Stop → Tokens → Kind
 kind_at s before ts = if is_refused s.around before (mark ts) then Unsupported (spelling (first ts).tok) else Expected
 
 -- the fault at the next token, where no rule goes on with it
-unfoldable pub refusal : Setting → Stop → Tokens → SynFault
+unfoldable pub refusal : Setting → Stop → Tokens → Fault
 refusal s before ts = fault.At (here ts) (kind_at s before ts)
 
 -- ---- readers
 
 abbrev pub Outcome : Type 0 → Type 0
-Outcome A = Result (A × Tokens) SynFault
+Outcome A = Result (A × Tokens) Fault
 
 abbrev pub Reader : Type 0 → Type 0
 Reader A = Tokens → Outcome A
@@ -185,7 +185,7 @@ declared s before = λ ts.
     if sees s m.Name ts then Ok (record { name = spelling (first ts).tok; arity = 0; place = here ts }, next ts) else Err (refusal s before ts)
 
 -- the fault where a list has taken as many turns as there are tokens; no list of tokens comes to it, since each turn takes one
-abbrev pub exhausted : Tokens → SynFault
+abbrev pub exhausted : Tokens → Fault
 exhausted ts = fault.At (here ts) Expected
 
 -- the opening sign of a bracket, where so many nestings may still begin
@@ -224,16 +224,5 @@ begins s ts = is_inside s ts && (is_some (prefix_row (first ts).tok) || begins_o
 abbrev pub too_deep_kind : Setting → Tokens → Kind
 too_deep_kind s ts = if begins s ts || is_refused s.around stop.Operand (mark ts) then TooDeep else Expected
 
-unfoldable pub too_deep : Setting → Tokens → SynFault
+unfoldable pub too_deep : Setting → Tokens → Fault
 too_deep s ts = fault.At (here ts) (too_deep_kind s ts)
-
--- ---- what a function that reads ensures: the reader's outcome, unless memory fails
-
--- the fault is this one
-abbrev pub Told : SynFault → SynFault → Type 0
-Told told e = e ≢ fault.Memory → e ≡ told
-
--- the outcome is this one, before these tokens
-abbrev pub Reads : {A : Type 0} → Outcome A → Result A SynFault → Tokens → Type 0
-Reads outcome (Ok a) new = outcome ≡ Ok (a, new)
-Reads outcome (Err e) new = e ≢ fault.Memory → outcome ≡ Err e

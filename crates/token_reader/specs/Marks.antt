@@ -1,5 +1,5 @@
 -- What a token is to the readers.
-use Rattle.std.specs.Prelude.{ℕ, Bool, if◌then◌else◌, nat_eq, List, [], ◌∷◌, Option, codes}
+use Rattle.std.specs.Prelude.{ℕ, Bool, true, false, if◌then◌else◌, nat_eq, List, [], ◌∷◌, Option, codes}
 use Rattle.std.specs.Cmp.Lexicographic.{pointwise}
 use denote.Enum.Bare.{sameb}
 use Rattle.tla_ast.specs.declared.token.Tok.{Tok}
@@ -155,3 +155,9 @@ prefix_row t = operator (spelling t) Prefix
 -- `==` on marks
 unfoldable pub same_mark : Mark → Mark → Bool
 same_mark = sameb the_type
+
+-- the marks of what ends a list of tokens
+abbrev pub is_final : Mark → Bool
+is_final m.End = true
+is_final m.Eof = true
+is_final _ = false

@@ -3,7 +3,7 @@
 ghost use Rattle.std.specs.Prelude.{◌≡◌, ◌∷◌, [], ◌&&◌, ◌||◌, if◌then◌else◌, length, true, false, Ok, IfOk, MatchOption};
 ghost use Rattle.token_reader.specs.Marks.{spelling as spelling_of};
 ghost use Rattle.token_reader.specs.Input as spec;
-ghost use Rattle.token_reader.specs.Input.{Told, Reads};
+ghost use Rattle.tla_ast.specs.Answers.{Told, Reads};
 
 use crate::mark::{Mark, mark_of, same_mark, spelling};
 use crate::setting::{Around, Setting, Stop};
@@ -11,7 +11,7 @@ use core_expr::{Memory, Text};
 use std::alloc::Global;
 use std::marker::Model;
 use std_names::{Fix, operator};
-use tla_ast::{Decl, Form, Kind, Place, SynFault, Tok, Token};
+use tla_ast::{Decl, Fault, Form, Kind, Place, Tok, Token};
 
 /// The tokens that are left, with the mark of the first.
 #[derive(Drop)]
@@ -214,22 +214,22 @@ impl<'a> Cursor<'a> {
 
     /// The fault at the next token, where no rule goes on with it.
     #[tactic(auto, unfolding(crate::specs::Input::refusal))]
-    pub fn refusal(&self, alloc: Global, setting: Setting, before: Stop) -> SynFault
+    pub fn refusal(&self, alloc: Global, setting: Setting, before: Stop) -> Fault
         ensures { Told (spec.refusal setting before self.now) result }
     {
         let place = self.place();
         if !is_refused(setting.around, before, self.mark) {
-            return SynFault::At {
+            return Fault::At {
                 place,
                 kind: Kind::Expected,
             };
         }
         match Text::of(alloc, self.spelling()) {
-            Ok(text) => SynFault::At {
+            Ok(text) => Fault::At {
                 place,
                 kind: Kind::Unsupported(text),
             },
-            Err(_) => SynFault::Memory,
+            Err(_) => Fault::Memory,
         }
     }
 
@@ -256,7 +256,7 @@ impl<'a> Cursor<'a> {
         setting: Setting,
         before: Stop,
         mark: Mark,
-    ) -> Result<(), SynFault>
+    ) -> Result<(), Fault>
         ensures { Reads (spec.expect setting before mark self.old) result self.new }
     {
         if self.sees(setting, mark) {
@@ -278,7 +278,7 @@ impl<'a> Cursor<'a> {
 
     /// Reads an identifier.
     #[tactic(auto, unfolding(crate::specs::Input::name))]
-    pub fn name(&mut self, alloc: Global, setting: Setting, before: Stop) -> Result<Text, SynFault>
+    pub fn name(&mut self, alloc: Global, setting: Setting, before: Stop) -> Result<Text, Fault>
         ensures { Reads (spec.name setting before self.old) result self.new }
     {
         if !self.sees(setting, Mark::Name) {
@@ -291,12 +291,7 @@ impl<'a> Cursor<'a> {
 
     /// Reads an identifier that is bound or is a parameter.
     #[tactic(auto, unfolding(crate::specs::Input::declared))]
-    pub fn declared(
-        &mut self,
-        alloc: Global,
-        setting: Setting,
-        before: Stop,
-    ) -> Result<Decl, SynFault>
+    pub fn declared(&mut self, alloc: Global, setting: Setting, before: Stop) -> Result<Decl, Fault>
         ensures { Reads (spec.declared setting before self.old) result self.new }
     {
         if !self.sees(setting, Mark::Name) {
@@ -312,10 +307,10 @@ impl<'a> Cursor<'a> {
     }
 
     /// The fault at the next token, where a list has taken as many turns as there are tokens.
-    pub fn exhausted(&self) -> SynFault
+    pub fn exhausted(&self) -> Fault
         ensures { result ≡ spec.exhausted self.now }
     {
-        SynFault::At {
+        Fault::At {
             place: self.place(),
             kind: Kind::Expected,
         }
@@ -323,11 +318,11 @@ impl<'a> Cursor<'a> {
 
     /// Reads the opening sign of a bracket, where so many nestings may still begin.
     #[tactic(auto, unfolding(crate::specs::Input::opening))]
-    pub fn opening(&mut self, left: usize) -> Result<Place, SynFault>
+    pub fn opening(&mut self, left: usize) -> Result<Place, Fault>
         ensures { Reads (spec.opening left self.old) result self.new }
     {
         if left == 0 {
-            return Err(SynFault::At {
+            return Err(Fault::At {
                 place: self.place(),
                 kind: Kind::TooDeep,
             });
@@ -347,11 +342,11 @@ impl<'a> Cursor<'a> {
 
     /// The fault where no further nesting may begin.
     #[tactic(auto, unfolding(crate::specs::Input::too_deep))]
-    pub fn too_deep(&self, setting: Setting) -> SynFault
+    pub fn too_deep(&self, setting: Setting) -> Fault
         ensures { result ≡ spec.too_deep setting self.now }
     {
         let is_refused = is_refused(setting.around, Stop::Operand, self.mark);
-        SynFault::At {
+        Fault::At {
             place: self.place(),
             kind: deep_kind(self.begins(setting), is_refused),
         }
