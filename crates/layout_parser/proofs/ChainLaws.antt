@@ -1,5 +1,5 @@
 -- A chain piece by piece.
-use Rattle.std.proofs.Common.{◌≡◌, ℕ, suc, if◌then◌else◌, Result, zero, Bool, true, false, List, [], ◌∷◌, ◌++◌, Option, Some, None, Ok, Err, refl, sym, subst, ap, ◌∙◌, append_assoc, append-nil}
+use Rattle.std.proofs.Common.{◌≡◌, ℕ, suc, ◌-◌, ◌<◌, arith, if◌then◌else◌, Result, zero, Bool, true, false, List, [], ◌∷◌, ◌++◌, Option, Some, None, Ok, Err, refl, sym, subst, ap, ◌∙◌, append_assoc, append-nil}
 use Rattle.std.proofs.lemmas.Option.{none-some}
 use Rattle.std.specs.Result.{IfOk}
 use Rattle.std.specs.Prelude.{MatchOption}
@@ -244,3 +244,6 @@ unfolding nested
 nested-none left n s waits ts xs f is-left is-xs is-f =
     let e : nested left n s waits ts ≡ ([], Err (too_deep s ts)) = ap (λ k. nested k n s waits ts) is-left in
     (is-xs ∙ sym (ap (λ p. p.0) e), ap (λ p. p.1) e ∙ ap Err (sym is-f))
+
+pub deeper : {X : Type 0} (f : ℕ → X) (n : ℕ) → 0 < n → f n ≡ f (suc (n - 1))
+deeper f n some = let e : n ≡ suc (n - 1) = omega arith in ap f e

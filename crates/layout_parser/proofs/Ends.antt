@@ -12,7 +12,7 @@ use Rattle.tla_ast.specs.Listing.{Ends}
 use Rattle.operator_chain.specs.declared.chain.Piece.{Piece}
 use Rattle.operator_chain.specs.Chain.{OneRightTree}
 use Rattle.token_reader.specs.Input.{Tokens, Outcome, first}
-use Rattle.layout_parser.specs.Reading.{Chain, reading, nested, outermost, located, most_nestings, finished}
+use Rattle.layout_parser.specs.Reading.{Chain, reading, nested, outermost, located, nestings_left, finished}
 use Rattle.layout_parser.specs.Laws.{IsReading, Uses, ReadInOrder, InsideTheRegion, EndIsExact, EndsBeforeTheLast}
 use Rattle.layout_parser.specs.Spelling.{Stops, Symbols, expression, MayUse, Spelled, none, token, of_operand, of_tree, of_no_bullet}
 use Rattle.layout_parser.proofs.Steps.{Read, nothing, finish, on-finished, le}
@@ -53,7 +53,7 @@ may-use {region} (of_tree {inner = inner} {used = used} {more = more} t is right
 record Told (ts : Tokens) (from region depth : ℕ) (n : Node) (to : ℕ) : Type 0 where
   pub rest : Tokens
   pub xs : List Piece
-  pub chain : nested (suc (most_nestings - depth)) (length (drop from ts)) (outermost region) true (drop from ts) ≡ (xs, Ok rest)
+  pub chain : nested (nestings_left depth) (length (drop from ts)) (outermost region) true (drop from ts) ≡ (xs, Ok rest)
   pub to_is : length ts - length rest ≡ to
   pub read : Read region false (drop from ts) rest (expression region false n ∷ [])
 
@@ -69,7 +69,7 @@ unfolding reading
 told law ts from region depth n to e = by-outcome (finished c) refl e
   where
     c : Chain
-    c = nested (suc (most_nestings - depth)) (length (drop from ts)) (outermost region) true (drop from ts)
+    c = nested (nestings_left depth) (length (drop from ts)) (outermost region) true (drop from ts)
 
     by-outcome : (r : Outcome Node) → finished c ≡ r → located ts r ≡ Ok (n, to) → Told ts from region depth n to
     by-outcome (Ok p) is f =
@@ -80,7 +80,7 @@ told law ts from region depth n to e = by-outcome (finished c) refl e
           xs = c.0;
           chain = (finish c n p.1 whole).chain;
           to_is = ap (λ q. q.1) (same-pair (p.0, length ts - length p.1) (n, to) f);
-          read = on-finished law (outermost region) c (le region) whole (λ xs us at. let all = good-nested law (suc (most_nestings - depth)) (length (drop from ts)) (outermost region) true (drop from ts) us xs at in (all.0, all.1 (le (length (drop from ts))))) nothing;
+          read = on-finished law (outermost region) c (le region) whole (λ xs us at. let all = good-nested law (nestings_left depth) (length (drop from ts)) (outermost region) true (drop from ts) us xs at in (all.0, all.1 (le (length (drop from ts))))) nothing;
         }
     by-outcome (Err x) is f = absurd (cc)
 
@@ -123,7 +123,7 @@ inside law ts from region depth n to e = let h = told law ts from region depth n
 
 pub exact : OneRightTree → EndIsExact
 exact law ts from region depth n to e = let h = told law ts from region depth n to e in
-    let all = good-nested law (suc (most_nestings - depth)) (length (drop from ts)) (outermost region) true (drop from ts) h.rest h.xs h.chain in
+    let all = good-nested law (nestings_left depth) (length (drop from ts)) (outermost region) true (drop from ts) h.rest h.xs h.chain in
     subst (λ l. Stops region (first l)) (sym (rest-is h)) (all.1 (le (length (drop from ts))))
 
 -- ---- the last token

@@ -3,6 +3,7 @@ use Rattle.std.specs.Prelude.{◌≡◌, ◌≢◌, ℕ, zero, suc, ◌-◌, Boo
 use Rattle.tla_ast.specs.declared.place.Place.{Place}
 use Rattle.tla_ast.specs.declared.token.Token.{Token}
 use Rattle.tla_ast.specs.declared.fault.Kind.TheVariants.{Precedence}
+use Rattle.tla_ast.specs.declared.limit.TheConstants.{MOST_NESTINGS}
 use Rattle.tla_ast.specs.declared.fault.Fault.{Fault}
 use Rattle.tla_ast.specs.declared.fault.Fault.TheVariants as fault
 use Rattle.tla_ast.specs.declared.tree.Node.{Node, roll-Node, out-Node}
@@ -695,13 +696,13 @@ unfoldable pub nested : ℕ → ChainReader
 nested zero n s waits ts = ([], Err (too_deep s ts))
 nested (suc left) n s waits ts = chain_from left (nested left) n s waits ts
 
--- the nestings that an expression may have round a token of it
-abbrev pub most_nestings : ℕ
-most_nestings = 200
+-- how many nestings may still begin where so many stand round
+abbrev pub nestings_left : ℕ → ℕ
+nestings_left depth = suc (MOST_NESTINGS - depth)
 
 -- an expression with so many nestings round it
 abbrev pub expression : ℕ → Setting → Reader Node
-expression depth s = λ ts. finished (nested (suc (most_nestings - depth)) (length ts) s true ts)
+expression depth s = λ ts. finished (nested (nestings_left depth) (length ts) s true ts)
 
 -- what is round an expression that stands in no bracket
 abbrev pub outermost : ℕ → Setting
@@ -715,8 +716,3 @@ located ts (Err e) = Err e
 -- the reading of an expression that begins at a place of a list of tokens, in a region, with so many nestings round it
 unfoldable pub reading : List Token → ℕ → ℕ → ℕ → Result (Node × ℕ) Fault
 reading ts from region depth = located ts (expression depth (outermost region) (drop from ts))
-
--- what a function that reads an expression ensures: this reading, unless memory fails
-abbrev pub Reads : Result (Node × ℕ) Fault → Result (Node × ℕ) Fault → Type 0
-Reads (Ok p) r = r ≡ Ok p
-Reads (Err e) r = e ≢ fault.Memory → r ≡ Err e

@@ -12,7 +12,7 @@ use crate::grammar::Grammar;
 use core_expr::Memory;
 use sqlite_items::Items;
 use std::alloc::Global;
-use tla_ast::{Decl, Form, Group, Node, Fault};
+use tla_ast::{Decl, Fault, Form, Group, Node};
 use token_reader::{Cursor, Mark, Setting, Stop, names};
 
 impl<F: Fn(Global, &mut Cursor<'_>, usize, usize, Setting, bool) -> Result<Flat, Memory>> Grammar<

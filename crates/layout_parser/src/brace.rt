@@ -16,7 +16,7 @@ use crate::member::{Bound, element, ends_at, put_before};
 use core_expr::{Memory, Text};
 use operator_chain::Piece;
 use std::alloc::Global;
-use tla_ast::{Form, Node, Place, Fault};
+use tla_ast::{Fault, Form, Node, Place};
 use token_reader::{Around, Cursor, Mark, Setting, Stop};
 
 fn is_tuple(around: Around) -> bool
@@ -50,12 +50,7 @@ impl<F: Fn(Global, &mut Cursor<'_>, usize, usize, Setting, bool) -> Result<Flat,
 > {
     /// `{e : x \in S}`, after the `:`.
     #[tactic(auto, unfolding(crate::specs::Reading::image))]
-    fn image(
-        &self,
-        cursor: &mut Cursor<'_>,
-        setting: Setting,
-        value: Node,
-    ) -> Result<Node, Fault>
+    fn image(&self, cursor: &mut Cursor<'_>, setting: Setting, value: Node) -> Result<Node, Fault>
         requires { Nests self.now.left (F.pre self.now.read) (F.post self.now.read) }
         ensures { Reads (spec.image self.now.left (spec.nested self.now.left) setting value cursor.old) result cursor.new }
     {

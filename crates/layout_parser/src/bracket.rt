@@ -12,7 +12,7 @@ use crate::grammar::Grammar;
 use core_expr::{Memory, Text};
 use sqlite_items::Items;
 use std::alloc::Global;
-use tla_ast::{Form, Node, Place, Fault};
+use tla_ast::{Fault, Form, Node, Place};
 use token_reader::{Around, Cursor, Mark, Setting, Stop};
 
 impl<F: Fn(Global, &mut Cursor<'_>, usize, usize, Setting, bool) -> Result<Flat, Memory>> Grammar<

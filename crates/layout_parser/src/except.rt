@@ -14,7 +14,7 @@ use operator_chain::{Ending, Piece};
 use sqlite_items::Items;
 use std::alloc::{AllocError, Global};
 use std::collections::VecDeque;
-use tla_ast::{Form, Key, Node, Path, Place, Fault};
+use tla_ast::{Fault, Form, Key, Node, Path, Place};
 use token_reader::{Cursor, Mark, Setting, Stop};
 
 /// The paths of updates, and the function with the new values.

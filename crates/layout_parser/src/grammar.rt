@@ -15,7 +15,7 @@ use core_expr::Memory;
 use operator_chain::{ChainFault, Piece, tree};
 use std::alloc::Global;
 use std::collections::VecDeque;
-use tla_ast::{Kind, Node, Fault};
+use tla_ast::{Fault, Kind, Node};
 use token_reader::{Cursor, Setting, Stop};
 
 /// The rules, where so many nestings may begin.
@@ -161,11 +161,7 @@ fn full(
 }
 
 /// The chain that breaks off at a fault, behind a postfix operator that is not finished or without one.
-fn broken(
-    mut pieces: VecDeque<Piece>,
-    piece: Option<Piece>,
-    fault: Fault,
-) -> Result<Flat, Memory>
+fn broken(mut pieces: VecDeque<Piece>, piece: Option<Piece>, fault: Fault) -> Result<Flat, Memory>
     ensures { (rest : Tokens) → Flats (spec.behind pieces.items (spec.left_over piece, Err fault)) result rest }
 {
     if let Some(piece) = piece {

@@ -23,4 +23,4 @@ mod step;
 mod words;
 
 pub use laws::{end_is_exact, ends_before_the_last, inside_the_region, read_in_order};
-pub use reader::{MOST_NESTINGS, read_expr};
+pub use reader::{read_at, read_expr};

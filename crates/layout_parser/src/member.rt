@@ -17,7 +17,7 @@ use core_expr::{Memory, Text};
 use operator_chain::{Operator, Piece};
 use std::alloc::Global;
 use std::collections::VecDeque;
-use tla_ast::{Form, Node, Place, Fault};
+use tla_ast::{Fault, Form, Node, Place};
 use token_reader::{Cursor, Mark, Setting};
 
 /// A name and the `\in` after it.

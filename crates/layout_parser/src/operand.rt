@@ -12,7 +12,7 @@ use crate::grammar::Grammar;
 use core_expr::{Memory, Text};
 use sqlite_items::Items;
 use std::alloc::Global;
-use tla_ast::{Form, Node, Fault};
+use tla_ast::{Fault, Form, Node};
 use token_reader::{Cursor, Mark, Setting, Stop, same_mark};
 
 /// A word that is an operand by itself.

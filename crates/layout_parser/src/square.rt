@@ -16,7 +16,7 @@ use crate::member::{Bound, element, ends_at};
 use core_expr::{Memory, Text};
 use sqlite_items::Items;
 use std::alloc::Global;
-use tla_ast::{Decl, Form, Node, Place, Fault};
+use tla_ast::{Decl, Fault, Form, Node, Place};
 use token_reader::{Around, Cursor, Mark, Setting, Stop};
 
 /// Fields of a record with what they hold: the names, and per field a node of its name and the expression.
@@ -70,12 +70,7 @@ impl<F: Fn(Global, &mut Cursor<'_>, usize, usize, Setting, bool) -> Result<Flat,
 
     /// One or more fields, with commas between.
     #[tactic(auto, using(token_reader::proofs::Turns::turn), unfolding(token_reader::specs::Lists::gathered, token_reader::specs::Lists::gathered_from))]
-    fn fields(
-        &self,
-        cursor: &mut Cursor<'_>,
-        setting: Setting,
-        mark: Mark,
-    ) -> Result<Fields, Fault>
+    fn fields(&self, cursor: &mut Cursor<'_>, setting: Setting, mark: Mark) -> Result<Fields, Fault>
         requires { Nests self.now.left (F.pre self.now.read) (F.post self.now.read) }
         ensures { Reads (spec.fields self.now.left (spec.nested self.now.left) setting mark cursor.old) result cursor.new }
     {

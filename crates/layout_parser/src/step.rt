@@ -12,7 +12,7 @@ use core_expr::{Memory, Text};
 use operator_chain::{Ending, Operator, Piece, Suffix, plain};
 use std::alloc::Global;
 use std_names::Fix;
-use tla_ast::{Node, Place, Fault};
+use tla_ast::{Fault, Node, Place};
 use token_reader::{Around, Cursor, Mark, Setting, Stop};
 
 /// The operator that the next token is, in the region.

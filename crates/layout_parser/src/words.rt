@@ -12,7 +12,7 @@ use crate::grammar::Grammar;
 use core_expr::Memory;
 use sqlite_items::{Boxed, Items};
 use std::alloc::Global;
-use tla_ast::{Decl, Def, Form, Node, Place, Fault};
+use tla_ast::{Decl, Def, Fault, Form, Node, Place};
 use token_reader::{Around, Cursor, Mark, Setting, Stop, names};
 
 /// Reads the `[]` before a further arm, which is not that of OTHER; answers whether one comes.
