@@ -73,7 +73,7 @@ pub record Named (s : Setting) (ns : List Decl) (ts rest : Tokens) : Type 0 wher
 names-read : (s : Setting) (before : Stop) (ts : Tokens) (ns : List Decl) (rest : Tokens) → names s before ts ≡ Ok (ns, rest) → Named s ns ts rest
 names-read s before ts ns rest e =
     let h = list-read s.region s.has_at put_last (λ d. d) (λ d. spell.declared d ∷ []) spell.comma (eat s m.Comma) (declared s before)
-        (λ us mid d f. record { item = d; is = refl; read = on-declared s before f nothing }) (mark-separates s m.Comma refl) [] ts ns rest e in
+    (λ us mid d f. record { item = d; is = refl; read = on-declared s before f nothing }) (mark-separates s m.Comma refl) [] ts ns rest e in
     record { head = h.head; tail = h.tail; are = h.are ∙ puts-same [] (h.head ∷ h.tail); read = h.read }
 
 other-bullet : (column : ℕ) (k : Mark) (ts : Tokens) → (nat_eq (here ts).column column && same_mark (mark ts) k) ≡ false → mark_of (first ts).tok ≡ k → (here ts).column ≢ column
@@ -110,7 +110,7 @@ module _ (left : ℕ) (inner : ChainReader) (law : OneRightTree) (good : Good in
   expressions : (s : Setting) (found : List Node) (ts : Tokens) (xs : List Node) (rest : Tokens) → rule.expressions left inner s found ts ≡ Ok (xs, rest) → Listed s found xs ts rest
   expressions s found ts xs rest e =
       let h = list-read s.region s.has_at put_last (λ x. x) (λ x. same s.region s.has_at x ∷ []) spell.comma (eat s m.Comma) (part left inner s)
-          (λ us mid x f. record { item = x; is = refl; read = on-same s f nothing }) (mark-separates s m.Comma refl) found ts xs rest e in
+      (λ us mid x f. record { item = x; is = refl; read = on-same s f nothing }) (mark-separates s m.Comma refl) found ts xs rest e in
       record { head = h.head; tail = h.tail; are = h.are ∙ puts-same found (h.head ∷ h.tail); read = h.read }
 
   -- ---- names, parentheses, angle brackets
@@ -218,17 +218,15 @@ module _ (left : ℕ) (inner : ChainReader) (law : OneRightTree) (good : Good in
       let h = full (length (next (next ts))) s (next (next ts)) us c.0 (le (length (next (next ts)))) (λ i. (c.0, (ap (λ p. p.1) is) i)) in
       (subst (λ l. ChainRead s true ts us l) (ap (λ p. p.0) is) (with-member s ts us c.0 at sign-at h.0), h.1)
 
-  end-sees : (s : Setting) (k : Mark) (c : Chain) (xs : List Piece) (us : Tokens) → c ≡ (xs, Ok us) → ends_at s k c ≡ true → sees s k us ≡ true
-  end-sees s k c xs us is w = subst (λ d. ends_at s k d ≡ true) is w
-
   member-brace : (s : Setting) (ts rest : Tokens) (n : Node) → Stands s.region m.OpenBrace ts → Stands s.region m.Name (next ts) → Stands s.region m.Belongs (next (next ts))
       → rule.member_brace left inner s (here ts) (next ts) ≡ Ok (n, rest) → Derives s.region s.has_at ts rest n
   unfolding rule.member_brace rule.filter set-chain
   member-brace s ts rest n at name-at sign-at e = let c = set-chain s (next ts) in by-test {b = ends_at s m.Colon c} e
-      (λ whole e1. got e1 (λ set mid e2 f2. got f2 (λ condition t3 e3 f3. eaten (within around.Colon s) stop.Expression m.CloseBrace _ refl f3 (λ close f4.
-      derived f4 (spell.filter (spelling (first (next ts)).tok) set condition (here (next ts)))
+      (λ _ e1. got {o = rule.finished c} e1 (λ set mid e2 f2. eaten s stop.Expression m.Colon _ refl f2 (λ colon f3. got {o = part left inner (within around.Colon s) (next mid)} f3 (λ condition t3 e3 f4.
+      eaten (within around.Colon s) stop.Expression m.CloseBrace _ refl f4 (λ close f5.
+      derived f5 (spell.filter (spelling (first (next ts)).tok) set condition (here (next ts)))
       (on-sign at (on-word name-at (on-sign sign-at (on-finished law s c (le s.region) e2 (λ xs us is. full _ s _ us xs (le _) is)
-      (on-sign (stands s m.Colon mid refl (end-sees s m.Colon c c.0 mid (finish c set mid e2).chain whole)) (on-same (within around.Colon s) e3 (on-sign close nothing)))))))))))
+      (on-sign colon (on-same (within around.Colon s) e3 (on-sign close nothing))))))))))))
       (λ _ e1. got e1 (λ x mid e2 f2. brace-end s ts mid rest n x at (on-finished law s _ (le s.region) e2 (member-chain s (next ts) name-at sign-at) nothing) f2))
 
   tuple-in : (s : Setting) (ts mid rest : Tokens) (n a : Node) → Stands s.region m.OpenBrace ts → Read s.region s.has_at (next ts) mid (spell.operand a ∷ [])
@@ -337,7 +335,7 @@ module _ (left : ℕ) (inner : ChainReader) (law : OneRightTree) (good : Good in
   keys : (s : Setting) (ts : Tokens) (ks : List Key) (rest : Tokens) → rule.keys left inner s ts ≡ Ok (ks, rest) → Keyed s ks ts rest
   keys s ts ks rest e =
       let h = list-read s.region s.has_at put_last (λ k. k) (spell.key_symbols s.region s.has_at) [] (ask (begins_key s)) (rule.key_of left inner s)
-          (λ us mid k f. record { item = k; is = refl; read = key-of s us mid k f }) (ask-separates s.region s.has_at (begins_key s)) [] ts ks rest e in
+      (λ us mid k f. record { item = k; is = refl; read = key-of s us mid k f }) (ask-separates s.region s.has_at (begins_key s)) [] ts ks rest e in
       record { head = h.head; tail = h.tail; are = h.are ∙ puts-same [] (h.head ∷ h.tail); read = h.read }
 
   update : (s : Setting) (ts mid : Tokens) (u : Path × Node) → rule.update left inner s ts ≡ Ok (u, mid) → ItemRead s.region s.has_at updated (spell.update s.region s.has_at) u ts mid
@@ -379,10 +377,10 @@ module _ (left : ℕ) (inner : ChainReader) (law : OneRightTree) (good : Good in
       → rule.member_square left inner outer s (here ts) (next ts) ≡ Ok (n, rest) → Derives s.region s.has_at ts rest n
   unfolding rule.member_square rule.function set-chain
   member-square outer s ts rest n at name-at sign-at e = let c = set-chain s (next ts) in by-test {b = ends_at s m.Maps c} e
-      (λ whole e1. got e1 (λ set mid e2 f2. got f2 (λ x t3 e3 f3. eaten s stop.Expression m.CloseSquare _ refl f3 (λ close f4.
-      derived f4 (spell.function (spelling (first (next ts)).tok) set x (here (next ts)))
+      (λ _ e1. got {o = rule.finished c} e1 (λ set mid e2 f2. eaten s stop.Expression m.Maps _ refl f2 (λ maps f3. got {o = part left inner s (next mid)} f3 (λ x t3 e3 f4. eaten s stop.Expression m.CloseSquare _ refl f4 (λ close f5.
+      derived f5 (spell.function (spelling (first (next ts)).tok) set x (here (next ts)))
       (on-sign at (on-word name-at (on-sign sign-at (on-finished law s c (le s.region) e2 (λ xs us is. full _ s _ us xs (le _) is)
-      (on-sign (stands s m.Maps mid refl (end-sees s m.Maps c c.0 mid (finish c set mid e2).chain whole)) (on-same s e3 (on-sign close nothing)))))))))))
+      (on-sign maps (on-same s e3 (on-sign close nothing))))))))))))
       (λ _ e1. got e1 (λ x mid e2 f2. square-end outer s ts mid rest n x at (on-finished law s _ (le s.region) e2 (member-chain s (next ts) name-at sign-at) nothing) f2))
 
   square-name : (outer : Around) (s : Setting) (ts rest : Tokens) (n : Node) → Stands s.region m.OpenSquare ts → Stands s.region m.Name (next ts) → rule.square_name left inner outer s (here ts) (next ts) ≡ Ok (n, rest) → Derives s.region s.has_at ts rest n
@@ -426,7 +424,7 @@ module _ (left : ℕ) (inner : ChainReader) (law : OneRightTree) (good : Good in
   unfolding rule.bounds
   bounds s ns ts t1 gs rest h e = got {o = rule.bound_set left inner s ns t1} e (λ g t2 e2 f2. let one = with-set s ns ts t1 g t2 h e2 in by-reader {b = sees s m.Comma t2} (rule.further_bounds left inner s (g ∷ [])) _ f2
       (λ comma f3. let z = list-read s.region s.has_at put_last spell.group_of (spell.bound s.region s.has_at) spell.comma (eat s m.Comma) (rule.bound left inner s) (bound s) (mark-separates s m.Comma refl)
-          (g ∷ []) (after s m.Comma t2) gs rest f3 in
+      (g ∷ []) (after s m.Comma t2) gs rest f3 in
       record { head = one.item; tail = z.head ∷ z.tail; are = z.are ∙ puts-last spell.group_of (g ∷ []) (z.head ∷ z.tail) ∙ ap (λ q. q ∷ map spell.group_of (z.head ∷ z.tail)) one.is; read = both one.read (on-eat s refl comma z.read) })
       (λ none f3. let z = same-end (g ∷ []) gs (after s m.Comma t2) rest f3 in
       record { head = one.item; tail = []; are = sym z.0 ∙ ap (λ q. q ∷ []) one.is; read = up-to (sym (after-no s m.Comma t2 none) ∙ z.1) one.read }))
@@ -531,7 +529,7 @@ module _ (left : ℕ) (inner : ChainReader) (law : OneRightTree) (good : Good in
   definitions : (s : Setting) (ts : Tokens) (ds : List Def) (rest : Tokens) → rule.definitions left inner s ts ≡ Ok (ds, rest) → Defined s ds ts rest
   definitions s ts ds rest e =
       let h = list-read s.region s.has_at put_last spell.def_of (spell.definition s.region s.has_at) [] (ask (sees s m.Name)) (rule.definition left inner s) (definition s)
-          (ask-separates s.region s.has_at (sees s m.Name)) [] ts ds rest e in
+      (ask-separates s.region s.has_at (sees s m.Name)) [] ts ds rest e in
       record { head = h.head; tail = h.tail; are = h.are ∙ puts-last spell.def_of [] (h.head ∷ h.tail); read = h.read }
 
   local : (s : Setting) (ts rest : Tokens) (n : Node) → Stands s.region m.Let ts → rule.local left inner s ts ≡ Ok (n, rest) → Derives s.region s.has_at ts rest n

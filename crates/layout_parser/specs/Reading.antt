@@ -294,9 +294,10 @@ module _ (left : ℕ) (inner : ChainReader) where
     expect (within around.Colon s) stop.Expression m.CloseBrace
     pure (node (form.Image d.name) (set ∷ e ∷ []) d.place)
 
-  -- `{x \in S : P}`, after the `:`
+  -- `{x \in S : P}`, after the set
   unfoldable pub filter : Setting → Text → Place → Node → Reader Node
   filter s x place set = do
+    expect s stop.Expression m.Colon
     condition ← part (within around.Colon s)
     expect (within around.Colon s) stop.Expression m.CloseBrace
     pure (node (form.Filter x) (set ∷ condition ∷ []) place)
@@ -322,7 +323,7 @@ module _ (left : ℕ) (inner : ChainReader) where
   unfoldable pub member_brace : Setting → Place → Reader Node
   member_brace s place = λ ts.
       let c = inner (length (next (next ts))) s true (next (next ts)) in
-      let found = and_then (finished c) (λ set rest. filter s (spelling (first ts).tok) (here ts) set (next rest)) in
+      let found = and_then (finished c) (filter s (spelling (first ts).tok) (here ts)) in
       let other = and_then (finished (after_member (spelling (first ts).tok) (here ts) (here (next ts)) c)) (brace_end s place) in
       if ends_at s m.Colon c then found else other
 
@@ -436,9 +437,10 @@ module _ (left : ℕ) (inner : ChainReader) where
       let bad : Outcome Node = refuse s stop.Expression ts in
       if sees s m.CloseBox ts then act else (if sees s m.Arrow ts then sets else (if sees s m.Except ts then changed else bad))
 
-  -- `[x \in S |-> e]`, after the `|->`
+  -- `[x \in S |-> e]`, after the set
   unfoldable pub function : Setting → Text → Place → Node → Reader Node
   function s x place set = do
+    expect s stop.Expression m.Maps
     e ← part s
     expect s stop.Expression m.CloseSquare
     pure (node (form.Function x) (set ∷ e ∷ []) place)
@@ -448,7 +450,7 @@ module _ (left : ℕ) (inner : ChainReader) where
   unfoldable pub member_square : Around → Setting → Place → Reader Node
   member_square outer s place = λ ts.
       let c = inner (length (next (next ts))) s true (next (next ts)) in
-      let found = and_then (finished c) (λ set rest. function s (spelling (first ts).tok) (here ts) set (next rest)) in
+      let found = and_then (finished c) (function s (spelling (first ts).tok) (here ts)) in
       let other = and_then (finished (after_member (spelling (first ts).tok) (here ts) (here (next ts)) c)) (square_end outer s place) in
       if ends_at s m.Maps c then found else other
 

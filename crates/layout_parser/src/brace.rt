@@ -62,7 +62,7 @@ impl<F: Fn(Global, &mut Cursor<'_>, usize, usize, Setting, bool) -> Result<Flat,
         Ok(binary(self.alloc, Form::Image(bound.name), set, value, bound.place)?)
     }
 
-    /// `{x \in S : P}`, after the `:`.
+    /// `{x \in S : P}`, after the set.
     #[tactic(auto, unfolding(crate::specs::Reading::filter))]
     fn filter(
         &self,
@@ -76,6 +76,7 @@ impl<F: Fn(Global, &mut Cursor<'_>, usize, usize, Setting, bool) -> Result<Flat,
         ensures { Reads (spec.filter self.now.left (spec.nested self.now.left) setting name place set cursor.old) result cursor.new }
     {
         let inside = setting.within(Around::Colon);
+        cursor.expect(self.alloc, setting, Stop::Expression, Mark::Colon)?;
         let condition = self.part(cursor, inside)?;
         cursor.expect(self.alloc, inside, Stop::Expression, Mark::CloseBrace)?;
         Ok(binary(self.alloc, Form::Filter(name), set, condition, place)?)
@@ -159,7 +160,6 @@ impl<F: Fn(Global, &mut Cursor<'_>, usize, usize, Setting, bool) -> Result<Flat,
             return self.other_member_brace(cursor, setting, place, bound, set);
         }
         let set = finished(self.alloc, set)?;
-        cursor.advance();
         self.filter(cursor, setting, bound.name, bound.place, set)
     }
 

@@ -7,6 +7,7 @@ ghost use Rattle.layout_parser.specs.Reading as spec;
 
 use crate::grammar::{Grammar, read_chain};
 use crate::laws::ends_before_the_last;
+use operator_chain::one_right_tree;
 use std::alloc::Global;
 use tla_ast::{Fault, MOST_NESTINGS, Node, Tokens};
 use token_reader::{Around, Cursor, Setting};
@@ -54,6 +55,7 @@ pub fn read_expr(
     ensures reading { Answers result (spec.reading tokens.now.list from region depth) }
     ensures after { IfOk result (λ r. (from < r.1) × (r.1 < length tokens.now.list)) }
 {
+    one_right_tree();
     ends_before_the_last();
     let list = tokens.list.as_slice();
     let mut cursor = Cursor::new(&list[from as usize..]);

@@ -160,7 +160,7 @@ impl<F: Fn(Global, &mut Cursor<'_>, usize, usize, Setting, bool) -> Result<Flat,
         Err(cursor.refusal(self.alloc, setting, Stop::Expression))
     }
 
-    /// `[x \in S |-> e]`, after the `|->`.
+    /// `[x \in S |-> e]`, after the set.
     #[tactic(auto, unfolding(crate::specs::Reading::function))]
     fn function(
         &self,
@@ -173,6 +173,7 @@ impl<F: Fn(Global, &mut Cursor<'_>, usize, usize, Setting, bool) -> Result<Flat,
         requires { Nests self.now.left (F.pre self.now.read) (F.post self.now.read) }
         ensures { Reads (spec.function self.now.left (spec.nested self.now.left) setting name place set cursor.old) result cursor.new }
     {
+        cursor.expect(self.alloc, setting, Stop::Expression, Mark::Maps)?;
         let value = self.part(cursor, setting)?;
         cursor.expect(self.alloc, setting, Stop::Expression, Mark::CloseSquare)?;
         Ok(binary(self.alloc, Form::Function(name), set, value, place)?)
@@ -215,7 +216,6 @@ impl<F: Fn(Global, &mut Cursor<'_>, usize, usize, Setting, bool) -> Result<Flat,
             return self.other_member_square(cursor, outer, setting, place, bound, set);
         }
         let set = finished(self.alloc, set)?;
-        cursor.advance();
         self.function(cursor, setting, bound.name, bound.place, set)
     }
 
