@@ -1,7 +1,7 @@
 mod Rows
 mod Laws
 mod FlatLaws
-mod FaultLaws
+pub mod FaultLaws
 mod MachineLaws
 mod StackLemmas
 mod Pushed
