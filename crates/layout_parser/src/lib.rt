@@ -17,10 +17,12 @@ mod grammar;
 mod laws;
 mod member;
 mod operand;
+mod phrases;
 mod reader;
 mod square;
 mod step;
 mod words;
 
 pub use laws::{end_is_exact, ends_before_the_last, inside_the_region, read_in_order};
+pub use phrases::{bounds, definition_head, expression};
 pub use reader::{read_at, read_expr};

@@ -8,7 +8,7 @@ use Rattle.tla_ast.specs.declared.fault.Kind.{Kind}
 use Rattle.seq_calculus.specs.Calculus.{Der}
 use Rattle.tableau_definition.specs.Propositional.{Falsifies, by_number, connectives}
 use Rattle.propositional_search.specs.declared.search.Answer.TheVariants.{Saturated, Spent}
-use Rattle.propositional_module.specs.declared.fault.ModuleFault.TheVariants as fault
+use Rattle.tla_ast.specs.declared.fault.Fault.TheVariants as fault
 use Rattle.propositional_module.specs.declared.theorem.Theorem.{Theorem}
 use Rattle.propositional_module.specs.declared.theorem.PropositionalModule.{PropositionalModule}
 use Rattle.propositional_module.specs.Module.{module_of}

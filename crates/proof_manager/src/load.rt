@@ -5,11 +5,9 @@ ghost use Rattle.std.specs.List.{All};
 ghost use Rattle.propositional_module.specs.Laws.{IsWhole};
 ghost use Rattle.proof_manager.specs.Causes.{Reads, Loads, LoadCause};
 
-use propositional_module::{
-    ModuleFault, PropositionalModule, front_decides, goals_are_whole, read,
-};
+use propositional_module::{PropositionalModule, front_decides, goals_are_whole, read};
 use std::alloc::Global;
-use tla_ast::{Kind, Place};
+use tla_ast::{Fault, Kind, Place};
 use tla_io::{Shelf, ShelfFault};
 
 /// Why there is no module to answer.
@@ -36,8 +34,8 @@ fn read_text(alloc: Global, name: &str, text: &[u8]) -> Result<PropositionalModu
     goals_are_whole();
     match read(alloc, text, name.as_bytes()) {
         Ok(parsed) => Ok(parsed),
-        Err(ModuleFault::At { place, kind }) => Err(LoadFault::Refused { place, kind }),
-        Err(ModuleFault::Memory) => Err(LoadFault::Memory),
+        Err(Fault::At { place, kind }) => Err(LoadFault::Refused { place, kind }),
+        Err(Fault::Memory) => Err(LoadFault::Memory),
     }
 }
 

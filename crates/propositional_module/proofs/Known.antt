@@ -8,8 +8,9 @@ use Rattle.std.proofs.lemmas.List.{length-take}
 use Rattle.tla_lexer.specs.Signs.{Text}
 use Rattle.propositional_module.specs.declared.unit.Name.{Name}
 use Rattle.propositional_module.specs.declared.unit.Units.{Units}
-use Rattle.propositional_module.specs.declared.fault.ModuleFault.{ModuleFault}
-use Rattle.propositional_module.specs.Faults.{left_out, and_then}
+use Rattle.tla_ast.specs.declared.fault.Fault.{Fault}
+use Rattle.propositional_module.specs.Faults.{left_out}
+use Rattle.tla_ast.specs.Answers.{and_then}
 use Rattle.propositional_module.specs.Module.{text_of, declare_one, declare, constants_of}
 
 any-map : {K : Type 0} (f : K → Text) (n : Text) (ks : List K) → list_any (λ k. bytes_eq n (f k)) ks ≡ list_any (bytes_eq n) (map f ks)
@@ -65,15 +66,15 @@ pub declare-append : (known : List Text) (xs ys : List Name) → declare known (
 declare-append known [] ys = refl
 declare-append known (x ∷ xs) ys = go (λ k. declare-append k xs ys) (declare_one known x)
   where
-    go : ((k : List Text) → declare k (xs ++ ys) ≡ and_then (declare k xs) (λ more. declare more ys)) → (r : Result (List Text) ModuleFault)
+    go : ((k : List Text) → declare k (xs ++ ys) ≡ and_then (declare k xs) (λ more. declare more ys)) → (r : Result (List Text) Fault)
         → and_then r (λ more. declare more (xs ++ ys)) ≡ and_then (and_then r (λ more. declare more xs)) (λ more. declare more ys)
     go ih (Ok k) = ih k
     go ih (Err e) = refl
 
-pub declared-fail : (u : Units) (f : ModuleFault) → declare [] u.constants ≡ Err f → constants_of u ≡ Err f
+pub declared-fail : (u : Units) (f : Fault) → declare [] u.constants ≡ Err f → constants_of u ≡ Err f
 declared-fail u f e = rw (declare-append [] u.constants (flat_map (λ t. option_to_list t.name) u.theorems), e) refl
 
-pub declared-fail-later : (u : Units) (f : ModuleFault) (known : List Text) → declare [] u.constants ≡ Ok known
+pub declared-fail-later : (u : Units) (f : Fault) (known : List Text) → declare [] u.constants ≡ Ok known
     → declare known (flat_map (λ t. option_to_list t.name) u.theorems) ≡ Err f → constants_of u ≡ Err f
 declared-fail-later u f known e g = rw (declare-append [] u.constants (flat_map (λ t. option_to_list t.name) u.theorems), e, g) refl
 
@@ -90,7 +91,7 @@ all-behind known more [] e =
     let same : known ≡ more = cc in sym same ∙ sym (append-nil known)
 all-behind known more (n ∷ ns) e = go (λ k h. all-behind k more ns h) (declare_one known n) refl e
   where
-    go : ((k : List Text) → declare k ns ≡ Ok more → more ≡ k ++ map text_of ns) → (r : Result (List Text) ModuleFault) → declare_one known n ≡ r → and_then r (λ k. declare k ns) ≡ Ok more → more ≡ known ++ map text_of (n ∷ ns)
+    go : ((k : List Text) → declare k ns ≡ Ok more → more ≡ k ++ map text_of ns) → (r : Result (List Text) Fault) → declare_one known n ≡ r → and_then r (λ k. declare k ns) ≡ Ok more → more ≡ known ++ map text_of (n ∷ ns)
     go ih (Ok k) h e = ih k e ∙ ap (λ l. l ++ map text_of ns) (one-behind known k n h) ∙ append_assoc known (n.text ∷ []) (map text_of ns)
     go ih (Err f) h e = cc
 

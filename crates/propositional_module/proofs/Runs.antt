@@ -3,27 +3,28 @@ use Rattle.std.proofs.Common.{◌≡◌, ℕ, zero, suc, ◌+◌, ◌-◌, ◌<�
 use Rattle.std.specs.Result.{IsErrAnd}
 use Rattle.tla_ast.specs.declared.token.Token.{Token}
 use Rattle.propositional_module.specs.Kept.{behind_names, behind}
-use Rattle.propositional_module.specs.declared.fault.ModuleFault.{ModuleFault}
-use Rattle.propositional_module.specs.declared.fault.ModuleFault.TheVariants as fault
+use Rattle.tla_ast.specs.declared.fault.Fault.{Fault}
+use Rattle.tla_ast.specs.declared.fault.Fault.TheVariants as fault
 use Rattle.propositional_module.specs.declared.unit.Name.{Name}
 use Rattle.propositional_module.specs.declared.unit.Stated.{Stated}
-use Rattle.propositional_module.specs.Faults.{and_then, left_out, IsFault, GivesAs}
+use Rattle.propositional_module.specs.Faults.{left_out}
+use Rattle.tla_ast.specs.Answers.{and_then, Told, AnswersAs}
 use Rattle.propositional_module.specs.Units.{tok_at, place_at, is_sign, is_end, name, with_name, names, more_names, theorem, theorems, Read, constants, units}
 
 -- a fault of one reading is that of a reading that begins with it
-pub fails : {S A R B : Type 0} (from : S → A) (value : R → B) (e : ModuleFault) (found : Result A ModuleFault) (all : Result B ModuleFault)
-    → ((f : ModuleFault) → found ≡ Err f → all ≡ Err f) → GivesAs from (Err e) found → GivesAs value (Err e) all
+pub fails : {S A R B : Type 0} (from : S → A) (value : R → B) (e : Fault) (found : Result A Fault) (all : Result B Fault)
+    → ((f : Fault) → found ≡ Err f → all ≡ Err f) → AnswersAs from (Err e) found → AnswersAs value (Err e) all
 fails from value fault.Memory found all on g = tt
 fails from value (fault.At p k) found all on g = on (fault.At p k) g
 
 -- the same, where `?` hands the fault on
-pub fails-at : {S A R B : Type 0} (from : S → A) (value : R → B) (e : ModuleFault) (found : Result A ModuleFault) (all : Result B ModuleFault) (r : Result R ModuleFault)
-    → IsErrAnd r (λ x. x ≡ e) → ((f : ModuleFault) → found ≡ Err f → all ≡ Err f) → GivesAs from (Err e) found → GivesAs value r all
+pub fails-at : {S A R B : Type 0} (from : S → A) (value : R → B) (e : Fault) (found : Result A Fault) (all : Result B Fault) (r : Result R Fault)
+    → IsErrAnd r (λ x. x ≡ e) → ((f : Fault) → found ≡ Err f → all ≡ Err f) → AnswersAs from (Err e) found → AnswersAs value r all
 fails-at from value e found all (Ok x) i on g = absurd i
-fails-at from value e found all (Err x) i on g = subst (λ y. GivesAs value (Err y) all) (sym i) (fails from value e found all on g)
+fails-at from value e found all (Err x) i on g = subst (λ y. AnswersAs value (Err y) all) (sym i) (fails from value e found all on g)
 
 -- a refusal that is found
-pub refused : {A R : Type 0} (value : R → A) (e known : ModuleFault) (all : Result A ModuleFault) → IsFault e known → all ≡ Err known → GivesAs value (Err e) all
+pub refused : {A R : Type 0} (value : R → A) (e known : Fault) (all : Result A Fault) → Told known e → all ≡ Err known → AnswersAs value (Err e) all
 refused value fault.Memory known all i h = tt
 refused value (fault.At p k) known all i h = h ∙ ap (λ f. Err f) i
 
@@ -51,7 +52,7 @@ pub names-next : (all : Read (List Name)) (ns : List Name) (ts : List Token) (k 
     → is_sign (codes ",") (tok_at ts i) ≡ true → name ts (i + 1) ≡ Ok n → all ≡ behind_names (ns ++ n ∷ []) (more_names j ts (i + 2))
 names-next all ns ts k j i n h e c f = h ∙ rw (e, c, f) (behind-with ns n (more_names j ts (i + 2)))
 
-pub names-fail : (all : Read (List Name)) (ns : List Name) (ts : List Token) (k i : ℕ) (e : ModuleFault) → all ≡ behind_names ns (more_names k ts i) → 0 < k
+pub names-fail : (all : Read (List Name)) (ns : List Name) (ts : List Token) (k i : ℕ) (e : Fault) → all ≡ behind_names ns (more_names k ts i) → 0 < k
     → is_sign (codes ",") (tok_at ts i) ≡ true → name ts (i + 1) ≡ Err e → all ≡ Err e
 names-fail all ns ts zero i e h p c f = absurd (omega arith)
 names-fail all ns ts (suc k) i e h p c f = h ∙ rw (c, f) refl
@@ -63,33 +64,33 @@ names-stop all ns ts (suc k) i h c = h ∙ rw c (ap (λ l. Ok (l, i)) (append-ni
 
 -- ---- theorems
 
-behind-front : (ss : List Stated) (s : Stated) (r : Result (List Stated) ModuleFault)
+behind-front : (ss : List Stated) (s : Stated) (r : Result (List Stated) Fault)
     → behind ss (and_then r (λ more. Ok (s ∷ more))) ≡ behind (ss ++ s ∷ []) r
 behind-front ss s (Ok p) = ap (λ l. Ok l) (sym (append_assoc ss (s ∷ []) p))
 behind-front ss s (Err e) = refl
 
-pub theorems-next : (all : Result (List Stated) ModuleFault) (ss : List Stated) (ts : List Token) (k i next : ℕ) (s : Stated) → all ≡ behind ss (theorems (suc k) ts i)
+pub theorems-next : (all : Result (List Stated) Fault) (ss : List Stated) (ts : List Token) (k i next : ℕ) (s : Stated) → all ≡ behind ss (theorems (suc k) ts i)
     → is_end (tok_at ts i) ≡ false → theorem ts i ≡ Ok (s, next) → all ≡ behind (ss ++ s ∷ []) (theorems k ts next)
 theorems-next all ss ts k i next s h c f = h ∙ rw (c, f) (behind-front ss s (theorems k ts next))
 
-pub theorems-fail : (all : Result (List Stated) ModuleFault) (ss : List Stated) (ts : List Token) (k i : ℕ) (e : ModuleFault) → all ≡ behind ss (theorems (suc k) ts i)
+pub theorems-fail : (all : Result (List Stated) Fault) (ss : List Stated) (ts : List Token) (k i : ℕ) (e : Fault) → all ≡ behind ss (theorems (suc k) ts i)
     → is_end (tok_at ts i) ≡ false → theorem ts i ≡ Err e → all ≡ Err e
 theorems-fail all ss ts k i e h c f = h ∙ rw (c, f) refl
 
-pub theorems-stop : (all : Result (List Stated) ModuleFault) (ss : List Stated) (ts : List Token) (k i : ℕ) → all ≡ behind ss (theorems (suc k) ts i)
+pub theorems-stop : (all : Result (List Stated) Fault) (ss : List Stated) (ts : List Token) (k i : ℕ) → all ≡ behind ss (theorems (suc k) ts i)
     → is_end (tok_at ts i) ≡ true → all ≡ Ok ss
 theorems-stop all ss ts k i h c = h ∙ rw c (ap (λ l. Ok l) (append-nil ss))
 
-pub theorems-none : (all : Result (List Stated) ModuleFault) (ss : List Stated) (ts : List Token) (i : ℕ) → all ≡ behind ss (theorems 0 ts i) → all ≡ Err (left_out (place_at ts i))
+pub theorems-none : (all : Result (List Stated) Fault) (ss : List Stated) (ts : List Token) (i : ℕ) → all ≡ behind ss (theorems 0 ts i) → all ≡ Err (left_out (place_at ts i))
 theorems-none all ss ts i h = h
 
 -- ---- units
 
-pub units-fail : (ts : List Token) (f : ModuleFault) → constants ts 0 ≡ Err f → units ts ≡ Err f
+pub units-fail : (ts : List Token) (f : Fault) → constants ts 0 ≡ Err f → units ts ≡ Err f
 unfolding units
 units-fail ts f e = rw e refl
 
-pub behind-none : (r : Result (List Stated) ModuleFault) → behind [] r ≡ r
+pub behind-none : (r : Result (List Stated) Fault) → behind [] r ≡ r
 behind-none (Ok p) = refl
 behind-none (Err e) = refl
 
@@ -98,6 +99,6 @@ pub units-read : (ts : List Token) (p : List Name × ℕ) (found : List Stated) 
 unfolding units
 units-read ts p found e f = rw (e, sym (behind-none (theorems (length ts) ts p.1)) ∙ f) refl
 
-pub units-stop : (ts : List Token) (p : List Name × ℕ) (f : ModuleFault) → constants ts 0 ≡ Ok p → behind [] (theorems (length ts) ts p.1) ≡ Err f → units ts ≡ Err f
+pub units-stop : (ts : List Token) (p : List Name × ℕ) (f : Fault) → constants ts 0 ≡ Ok p → behind [] (theorems (length ts) ts p.1) ≡ Err f → units ts ≡ Err f
 unfolding units
 units-stop ts p f e g = rw (e, sym (behind-none (theorems (length ts) ts p.1)) ∙ g) refl

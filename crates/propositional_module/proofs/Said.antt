@@ -11,12 +11,12 @@ use Rattle.tla_lexer.specs.Signs.{Text}
 use Rattle.tla_ast.specs.Place.{before}
 use Rattle.propositional_module.specs.declared.sign.Sign.{Sign}
 use Rattle.propositional_module.specs.declared.sign.Sign.TheVariants as sign
-use Rattle.propositional_module.specs.declared.fault.ModuleFault.{ModuleFault}
+use Rattle.tla_ast.specs.declared.fault.Fault.{Fault}
 use Rattle.propositional_module.specs.declared.theorem.PropositionalModule.{PropositionalModule}
 use Rattle.propositional_module.specs.declared.theorem.Theorem.{Theorem}
 use Rattle.propositional_module.specs.declared.unit.Stated.{Stated}
 use Rattle.propositional_module.specs.declared.unit.Units.{Units}
-use Rattle.propositional_module.specs.Faults.{and_then, Gives}
+use Rattle.tla_ast.specs.Answers.{and_then, Answers}
 use Rattle.propositional_module.specs.Terms.{Shape, Term, Terms, count, term_of}
 use Rattle.propositional_module.specs.Terms.Shape.{named, prefixed, infixed, listed, other}
 use Rattle.propositional_module.specs.Terms.Term.{term}
@@ -45,12 +45,12 @@ steps bytes name m e = by-units (units_of bytes name) refl e
     by-outside u cs None g h f e = record { read = u; constants = cs; is_read = g; are_constants = h; none_outside = f; is_said = cc }
     by-outside u cs (Some p) g h f e = cc
 
-    by-constants : (u : Units) (r : Result (List Text) ModuleFault) → units_of bytes name ≡ Ok u → constants_of u ≡ r
+    by-constants : (u : Units) (r : Result (List Text) Fault) → units_of bytes name ≡ Ok u → constants_of u ≡ r
         → and_then r (λ cs. unless (first_outside cs u.theorems) (said cs u)) ≡ Ok m → Steps bytes name m
     by-constants u (Ok cs) g h e = by-outside u cs (first_outside cs u.theorems) g h refl e
     by-constants u (Err f) g h e = cc
 
-    by-units : (r : Result Units ModuleFault) → units_of bytes name ≡ r → and_then r checked ≡ Ok m → Steps bytes name m
+    by-units : (r : Result Units Fault) → units_of bytes name ≡ r → and_then r checked ≡ Ok m → Steps bytes name m
     by-units (Ok u) g e = by-constants u (constants_of u) g refl e
     by-units (Err f) g e = cc
 
@@ -180,7 +180,7 @@ goals-whole bytes name m e =
     let none = none-of (flat_map (λ t. outside s.constants (term_of t.goal)) s.read.theorems) s.none_outside in
     subst (λ (n : PropositionalModule). All (λ (t : Theorem). IsWhole t.goal) n.theorems) (sym s.is_said) (wholes s.constants s.read.theorems none)
 
-pub known-gives : (bytes name : Text) (r : Result PropositionalModule ModuleFault) → Gives r (module_of bytes name)
+pub known-gives : (bytes name : Text) (r : Result PropositionalModule Fault) → Answers r (module_of bytes name)
     → IfOk r (λ m. All (λ t. All (IsDeclared (length m.constants)) t.goal) m.theorems)
 known-gives bytes name (Ok m) g = declared-known bytes name m g
 known-gives bytes name (Err e) g = tt

@@ -8,16 +8,16 @@ use Rattle.tla_ast.specs.declared.token.Token.{Token}
 use Rattle.tla_ast.specs.declared.token.Tok.{Tok}
 use Rattle.tla_ast.specs.declared.token.Tok.TheVariants as tok
 use Rattle.tla_ast.specs.declared.tree.Node.{Node}
-use Rattle.tla_ast.specs.declared.fault.SynFault.{SynFault}
 use Rattle.tla_ast.specs.Word.{is_identifier}
 use Rattle.tla_lexer.specs.Signs.{Text}
 use Rattle.layout_parser.specs.Reading.{reading}
-use Rattle.propositional_module.specs.declared.fault.ModuleFault.{ModuleFault}
+use Rattle.tla_ast.specs.declared.fault.Fault.{Fault}
 use Rattle.propositional_module.specs.declared.unit.Name.{Name}
 use Rattle.propositional_module.specs.declared.unit.Stated.{Stated}
 use Rattle.propositional_module.specs.declared.unit.Units.{Units}
-use Rattle.propositional_module.specs.Faults.{and_then, left_out}
-use Rattle.propositional_module.specs.Units.{tok_at, place_at, is_word, is_sign, is_end, identifier, Read, stop, name, with_name, more_names, names, constants, title, parsed, expression, closed, theorem, theorems, units}
+use Rattle.propositional_module.specs.Faults.{left_out}
+use Rattle.tla_ast.specs.Answers.{and_then}
+use Rattle.propositional_module.specs.Units.{tok_at, place_at, is_word, is_sign, is_end, identifier, Read, stop, name, with_name, more_names, names, constants, title, expression, closed, theorem, theorems, units}
 use Rattle.propositional_module.specs.Grammar.{IsWord, IsName, AreNames, AreConstants, IsTitle, IsTheorem, AreTheorems}
 use Rattle.propositional_module.specs.Grammar.AreNames.{one, more}
 use Rattle.propositional_module.specs.Grammar.AreConstants.{declared, absent}
@@ -39,7 +39,7 @@ end-is tok.End e = refl
 end-is _ e = cc
 
 -- the two answers of a reading that begins with another
-both : {A B : Type 0} (r : Result A ModuleFault) (next : A → Result B ModuleFault) (b : B) → and_then r next ≡ Ok b → (a : A) × (r ≡ Ok a) × (next a ≡ Ok b)
+both : {A B : Type 0} (r : Result A Fault) (next : A → Result B Fault) (b : B) → and_then r next ≡ Ok b → (a : A) × (r ≡ Ok a) × (next a ≡ Ok b)
 both (Ok a) next b e = (a, refl, e)
 both (Err f) next b e = cc
 
@@ -143,11 +143,6 @@ title-stands ts i = go (is_sign (codes "==") (tok_at ts (i + 1))) (identifier (t
     go true None f g = rw (f, g) (unnamed (λ n h s. none-some n.text (sym g ∙ some-identifier (tok_at ts i) n.text h.word h.identifier)))
     go false o f g = rw f (unnamed (λ n h s. true≢false (sym (ap (is_sign (codes "==")) s) ∙ f)))
 
-parsed-ok : (r : Result (Node × ℕ) SynFault) (e : Node × ℕ) → parsed r ≡ Ok e → r ≡ Ok e
-parsed-ok (Ok r) e h =
-    let same : r ≡ e = cc in ap (λ x. Ok x) same
-parsed-ok (Err f) e h = cc
-
 theorem-stands : (ts : List Token) (i : ℕ) (p : Stated × ℕ) → theorem ts i ≡ Ok p → IsTheorem ts i p.0 p.1
 theorem-stands ts i p e = go (is_word (codes "THEOREM") (tok_at ts i)) refl e
   where
@@ -175,7 +170,7 @@ theorem-stands ts i p e = go (is_word (codes "THEOREM") (tok_at ts i)) refl e
     go : (b : Bool) → is_word (codes "THEOREM") (tok_at ts i) ≡ b → cond b (and_then (expression ts t.1) (closed ts i t.0)) (stop ts i) ≡ Ok p → IsTheorem ts i p.0 p.1
     go true g h =
         let e = both (expression ts t.1) (closed ts i t.0) p h in
-        by e.0 (parsed-ok (reading ts t.1 0 0) e.0 e.1) (word-is (codes "THEOREM") (tok_at ts i) g) (is_word (codes "OBVIOUS") (tok_at ts e.0.1)) refl e.2
+        by e.0 e.1 (word-is (codes "THEOREM") (tok_at ts i) g) (is_word (codes "OBVIOUS") (tok_at ts e.0.1)) refl e.2
     go false g h = cc
 
 theorems-stand : (k : ℕ) (ts : List Token) (i : ℕ) (ss : List Stated) → theorems k ts i ≡ Ok ss → AreTheorems ts i ss
@@ -192,7 +187,7 @@ theorems-stand (suc k) ts i ss e = go (λ j m h. theorems-stand k ts j m h) (is_
         let t = both (theorem ts i) (λ t. and_then (theorems k ts t.1) (λ more. Ok (t.0 ∷ more))) ss e in
         let m = both (theorems k ts t.0.1) (λ more. Ok (t.0.0 ∷ more)) ss t.2 in
         let n : List Stated = t.0.0 ∷ m.0 in
-        let is : ◌≡◌ {A = Result (List Stated) ModuleFault} (Ok n) (Ok ss) = m.2 in
+        let is : ◌≡◌ {A = Result (List Stated) Fault} (Ok n) (Ok ss) = m.2 in
         let same : n ≡ ss = cc in
         subst (AreTheorems ts i) same (goes_on (theorem-stands ts i t.0 t.1) (ih t.0.1 m.0 m.1))
 
@@ -202,6 +197,6 @@ units-stand ts u e =
     let c = both (constants ts 0) (λ c. and_then (theorems (length ts) ts c.1) (λ more. Ok (record { constants = c.0; theorems = more }))) u e in
     let m = both (theorems (length ts) ts c.0.1) (λ more. Ok (record { constants = c.0.0; theorems = more })) u c.2 in
     let v : Units = record { constants = c.0.0; theorems = m.0 } in
-    let is : ◌≡◌ {A = Result Units ModuleFault} (Ok v) (Ok u) = m.2 in
+    let is : ◌≡◌ {A = Result Units Fault} (Ok v) (Ok u) = m.2 in
     let same : v ≡ u = cc in
     subst (λ (w : Units). (i : ℕ) × AreConstants ts w.constants i × AreTheorems ts i w.theorems) same (c.0.1, constants-stand ts c.0 c.1, theorems-stand (length ts) ts c.0.1 m.0 m.1)

@@ -4,29 +4,28 @@ use Rattle.std.specs.Result.{IsErrAnd}
 use Rattle.std.specs.Str.{bytes_eq}
 use Rattle.tla_ast.specs.declared.place.Place.{Place}
 use Rattle.tla_ast.specs.declared.token.Tokens.{Tokens}
-use Rattle.tla_ast.specs.declared.fault.LexFault.{LexFault}
-use Rattle.tla_ast.specs.declared.fault.LexFault.TheVariants as lexer
 use Rattle.std.proofs.lemmas.Bool.{ltb-true, ltb-false, lt-ltb}
 use Rattle.std.proofs.lemmas.List.{length-take-le, take_all}
 use Rattle.tla_ast.specs.declared.fault.Kind.TheVariants.{TooLong}
 use Rattle.tla_lexer.specs.Place.{first}
 use Rattle.tla_lexer.specs.Signs.{Text}
-use Rattle.tla_lexer.specs.Tokens.{tokens, Gives as LexerGives}
-use Rattle.propositional_module.specs.declared.fault.ModuleFault.{ModuleFault}
+use Rattle.tla_lexer.specs.Tokens.{tokens}
+use Rattle.tla_ast.specs.declared.fault.Fault.{Fault}
 use Rattle.propositional_module.specs.declared.theorem.PropositionalModule.{PropositionalModule}
 use Rattle.propositional_module.specs.declared.unit.Units.{Units}
-use Rattle.propositional_module.specs.Faults.{left_out, of_lexer, and_then, Gives}
+use Rattle.propositional_module.specs.Faults.{left_out}
+use Rattle.tla_ast.specs.Answers.{and_then, Answers}
 use Rattle.propositional_module.specs.Units.{units}
 use Rattle.propositional_module.specs.Terms.{term_of}
 use Rattle.propositional_module.specs.Formulas.{outside}
-use Rattle.propositional_module.specs.Module.{text_of, names_of, declare, constants_of, earlier, theorem_of, lexed, named_units, checked, units_of, module_of}
+use Rattle.propositional_module.specs.Module.{text_of, names_of, declare, constants_of, earlier, theorem_of, named_units, checked, units_of, module_of}
 
 -- ---- the units
 
 constants-are : (u : Units) (cs : List Text) → constants_of u ≡ Ok cs → cs ≡ map text_of u.constants
 constants-are u cs e = go (declare [] (names_of u)) e
   where
-    go : (r : Result (List Text) ModuleFault) → and_then r (λ known. Ok (map text_of u.constants)) ≡ Ok cs → cs ≡ map text_of u.constants
+    go : (r : Result (List Text) Fault) → and_then r (λ known. Ok (map text_of u.constants)) ≡ Ok cs → cs ≡ map text_of u.constants
     go (Ok known) e = cc
     go (Err f) e = cc
 
@@ -40,16 +39,16 @@ is-said u cs e f = rw (e, f) (ap (λ l. Ok (record { constants = l; theorems = m
 
 -- ---- the text
 
-lexer-fault : (bytes name : Text) (f : LexFault) → tokens bytes ≡ Err f → module_of bytes name ≡ Err (of_lexer f)
+lexer-fault : (bytes name : Text) (f : Fault) → tokens bytes ≡ Err f → module_of bytes name ≡ Err f
 unfolding module_of units_of
 lexer-fault bytes name f e = rw e refl
 
-pub lexer-fails : (bytes name : Text) (f : LexFault) (r : Result PropositionalModule ModuleFault) → IsErrAnd r (λ x. x ≡ of_lexer f)
-    → LexerGives (Err f) (tokens bytes) → Gives r (module_of bytes name)
+pub lexer-fails : (bytes name : Text) (f : Fault) (r : Result PropositionalModule Fault) → IsErrAnd r (λ x. x ≡ f)
+    → Answers (Err f) (tokens bytes) → Answers r (module_of bytes name)
 lexer-fails bytes name f (Ok m) i g = absurd i
-lexer-fails bytes name f (Err e) i g = subst (λ x. Gives (Err x) (module_of bytes name)) (sym i) (told f g)
+lexer-fails bytes name f (Err e) i g = subst (λ x. Answers (Err x) (module_of bytes name)) (sym i) (told f g)
   where
-    told : (f : LexFault) → LexerGives (Err f) (tokens bytes) → Gives {A = PropositionalModule} (Err (of_lexer f)) (module_of bytes name)
+    told : (f : Fault) → Answers (Err f) (tokens bytes) → Answers {A = PropositionalModule} (Err f) (module_of bytes name)
     told lexer.Memory g = tt
     told (lexer.At p k) g = lexer-fault bytes name (lexer.At p k) g
 
@@ -57,7 +56,7 @@ pub other-name : (bytes name : Text) (ts : Tokens) → tokens bytes ≡ Ok ts �
 unfolding module_of units_of
 other-name bytes name ts e f = rw (e, f) refl
 
-pub units-fault : (bytes name : Text) (ts : Tokens) (f : ModuleFault) → tokens bytes ≡ Ok ts → bytes_eq ts.name name ≡ true → units ts.list ≡ Err f
+pub units-fault : (bytes name : Text) (ts : Tokens) (f : Fault) → tokens bytes ≡ Ok ts → bytes_eq ts.name name ≡ true → units ts.list ≡ Err f
     → module_of bytes name ≡ Err f
 unfolding module_of units_of
 units-fault bytes name ts f e g h = rw (e, g, h) refl
@@ -85,4 +84,4 @@ front-tokens most bytes h = go (nat_lt most (length bytes)) refl
 
 pub front-module : (most : ℕ) (bytes name : Text) → 1048576 < most → module_of (take most bytes) name ≡ module_of bytes name
 unfolding module_of units_of
-front-module most bytes name h = ap (λ r. and_then (and_then (lexed r) (named_units name)) checked) (front-tokens most bytes h)
+front-module most bytes name h = ap (λ r. and_then (and_then r (named_units name)) checked) (front-tokens most bytes h)

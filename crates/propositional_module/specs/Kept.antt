@@ -5,7 +5,7 @@ use Rattle.indexmap.specs.IndexSet.{IndexSet}
 use Rattle.tla_ast.specs.declared.token.Token.{Token}
 use Rattle.tla_ast.specs.declared.tree.Node.{Node}
 use Rattle.tla_lexer.specs.Signs.{Text}
-use Rattle.propositional_module.specs.declared.fault.ModuleFault.{ModuleFault}
+use Rattle.tla_ast.specs.declared.fault.Fault.{Fault}
 use Rattle.propositional_module.specs.declared.name.Constants.{Constants}
 use Rattle.propositional_module.specs.declared.unit.Name.{Name}
 use Rattle.propositional_module.specs.declared.unit.Stated.{Stated}
@@ -26,7 +26,7 @@ behind_names found (Ok p) = Ok (found ++ p.0, p.1)
 behind_names found (Err e) = Err e
 
 -- these theorems before those that are read
-abbrev pub behind : List Stated → Result (List Stated) ModuleFault → Result (List Stated) ModuleFault
+abbrev pub behind : List Stated → Result (List Stated) Fault → Result (List Stated) Fault
 behind found (Ok more) = Ok (found ++ more)
 behind found (Err e) = Err e
 

@@ -7,16 +7,16 @@ use Rattle.tla_ast.specs.declared.token.Token.{Token}
 use Rattle.tla_ast.specs.declared.token.Tok.{Tok}
 use Rattle.tla_ast.specs.declared.token.Tok.TheVariants as tok
 use Rattle.tla_ast.specs.declared.tree.Node.{Node}
-use Rattle.tla_ast.specs.declared.fault.SynFault.{SynFault}
 use Rattle.tla_ast.specs.Word.{is_identifier}
 use Rattle.tla_lexer.specs.Signs.{Text}
 use Rattle.tla_lexer.specs.Place.{first}
 use Rattle.layout_parser.specs.Reading.{reading}
-use Rattle.propositional_module.specs.declared.fault.ModuleFault.{ModuleFault}
+use Rattle.tla_ast.specs.declared.fault.Fault.{Fault}
 use Rattle.propositional_module.specs.declared.unit.Name.{Name}
 use Rattle.propositional_module.specs.declared.unit.Stated.{Stated}
 use Rattle.propositional_module.specs.declared.unit.Units.{Units}
-use Rattle.propositional_module.specs.Faults.{left_out, of_parser, and_then}
+use Rattle.propositional_module.specs.Faults.{left_out}
+use Rattle.tla_ast.specs.Answers.{and_then}
 
 -- the token at an index; past the last, the end of the bytes
 abbrev pub tok_at : List Token → ℕ → Tok
@@ -56,14 +56,14 @@ identifier _ = None
 
 -- a reading: its value and the index of the token after it, or its fault
 abbrev pub Read : Type 0 → Type 0
-Read A = Result (A × ℕ) ModuleFault
+Read A = Result (A × ℕ) Fault
 
 -- no unit of the form begins or goes on at this token
-abbrev pub stop : {A : Type 0} → List Token → ℕ → Result A ModuleFault
+abbrev pub stop : {A : Type 0} → List Token → ℕ → Result A Fault
 stop ts i = Err (left_out (place_at ts i))
 
 -- the name at an index
-abbrev pub name : List Token → ℕ → Result Name ModuleFault
+abbrev pub name : List Token → ℕ → Result Name Fault
 name ts i = ok_or (option_map (λ w. record { text = w; place = place_at ts i }) (identifier (tok_at ts i))) (left_out (place_at ts i))
 
 -- a name before those that are read
@@ -93,14 +93,9 @@ title ts i = by_sign (is_sign (codes "==") (tok_at ts (i + 1))) (identifier (tok
     by_sign true (Some w) = (Some (record { text = w; place = place_at ts i }), i + 2)
     by_sign _ _ = (None, i)
 
--- what the reader of expressions gives
-abbrev pub parsed : Result (Node × ℕ) SynFault → Read Node
-parsed (Ok e) = Ok e
-parsed (Err f) = Err (of_parser f)
-
 -- the expression at an index
 abbrev pub expression : List Token → ℕ → Read Node
-expression ts i = parsed (reading ts i 0 0)
+expression ts i = reading ts i 0 0
 
 -- the theorem of these parts, where OBVIOUS stands behind its expression
 abbrev pub closed : List Token → ℕ → Option Name → Node × ℕ → Read Stated
@@ -115,13 +110,13 @@ theorem ts i =
     if is_word (codes "THEOREM") (tok_at ts i) then and_then (expression ts t.1) (closed ts i t.0) else stop ts i
 
 -- the theorems from an index to the end token; at most so many
-abbrev pub theorems : ℕ → List Token → ℕ → Result (List Stated) ModuleFault
+abbrev pub theorems : ℕ → List Token → ℕ → Result (List Stated) Fault
 theorems zero ts i = stop ts i
 theorems (suc k) ts i =
     if is_end (tok_at ts i) then Ok []
     else and_then (theorem ts i) (λ t. and_then (theorems k ts t.1) (λ more. Ok (t.0 ∷ more)))
 
 -- the units of a module: each has a token, so there are at most as many as tokens
-unfoldable pub units : List Token → Result Units ModuleFault
+unfoldable pub units : List Token → Result Units Fault
 units ts =
     and_then (constants ts 0) (λ c. and_then (theorems (length ts) ts c.1) (λ more. Ok (record { constants = c.0; theorems = more })))

@@ -18,7 +18,6 @@ mod sign;
 mod theorem;
 mod unit;
 
-pub use fault::ModuleFault;
 pub use law::{
     earliest_stands_first, front_decides, goals_are_whole, prefix_notation_reads_back,
     small_examples, statements_are_formulas, units_stand,

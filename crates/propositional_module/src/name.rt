@@ -3,11 +3,11 @@
 ghost use Rattle.std.specs.Prelude.{◌≡◌, [], map, take, flat_map, position};
 ghost use Rattle.std.specs.Option.{option_to_list};
 ghost use Rattle.std.specs.Str.{bytes_eq};
-ghost use Rattle.propositional_module.specs.Faults.{GivesAs};
+ghost use Rattle.tla_ast.specs.Answers.{AnswersAs};
 ghost use Rattle.propositional_module.specs.Module as spec;
 ghost use Rattle.propositional_module.specs.Kept.{texts, constants_in};
 
-use crate::fault::{ModuleFault, refuse};
+use crate::fault::refuse;
 use crate::unit::{Name, Stated, Units};
 use indexmap::IndexSet;
 use std::alloc::Global;
@@ -17,13 +17,13 @@ fn declare<'a>(
     alloc: Global,
     known: &mut IndexSet<&'a [u8]>,
     name: &'a Name,
-) -> Result<(), ModuleFault>
-    ensures { GivesAs (λ _. texts known.new) result (spec.declare_one (texts known.old) name.now) }
+) -> Result<(), Fault>
+    ensures { AnswersAs (λ _. texts known.new) result (spec.declare_one (texts known.old) name.now) }
 {
     match known.insert_full(name.text.bytes()) {
         Ok((_, true)) => Ok(()),
         Ok((_, false)) => Err(refuse(alloc, name.place)),
-        Err(_) => Err(ModuleFault::Memory),
+        Err(_) => Err(Fault::Memory),
     }
 }
 
@@ -32,8 +32,8 @@ fn declare_constants<'a>(
     alloc: Global,
     known: &mut IndexSet<&'a [u8]>,
     names: &'a [Name],
-) -> Result<(), ModuleFault>
-    ensures { GivesAs (λ _. texts known.new) result (spec.declare (texts known.old) names.now) }
+) -> Result<(), Fault>
+    ensures { AnswersAs (λ _. texts known.new) result (spec.declare (texts known.old) names.now) }
 {
     for name in names {
         declare(alloc, known, name)?;
@@ -46,8 +46,8 @@ fn declare_theorems<'a>(
     alloc: Global,
     known: &mut IndexSet<&'a [u8]>,
     theorems: &'a [Stated],
-) -> Result<(), ModuleFault>
-    ensures { GivesAs (λ _. texts known.new) result (spec.declare (texts known.old) (flat_map (λ t. option_to_list t.name) theorems.now)) }
+) -> Result<(), Fault>
+    ensures { AnswersAs (λ _. texts known.new) result (spec.declare (texts known.old) (flat_map (λ t. option_to_list t.name) theorems.now)) }
 {
     for stated in theorems {
         if let Some(name) = &stated.name {
@@ -65,8 +65,8 @@ pub struct Constants<'a> {
 }
 
 /// The declared constants, where each name is declared once.
-pub fn declared<'a>(alloc: Global, units: &'a Units) -> Result<Constants<'a>, ModuleFault>
-    ensures { GivesAs constants_in result (spec.constants_of units.now) }
+pub fn declared<'a>(alloc: Global, units: &'a Units) -> Result<Constants<'a>, Fault>
+    ensures { AnswersAs constants_in result (spec.constants_of units.now) }
 {
     let mut known = IndexSet::new(alloc);
     declare_constants(alloc, &mut known, units.constants.as_slice())?;

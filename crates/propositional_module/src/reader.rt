@@ -1,20 +1,20 @@
 ghost use Rattle.std.specs.Prelude.{◌≡◌, map, flat_map, fold, length, All, IfOk, OnOk};
 ghost use Rattle.std.specs.Option.{option_map};
-ghost use Rattle.propositional_module.specs.Faults.{Gives};
+ghost use Rattle.tla_ast.specs.Answers.{Answers};
 ghost use Rattle.propositional_module.specs.Terms.{term_of};
 ghost use Rattle.propositional_module.specs.Formulas as formulas;
 ghost use Rattle.propositional_module.specs.Kept.{constants_in};
 ghost use Rattle.propositional_module.specs.Module as spec;
 
-use crate::fault::{ModuleFault, refuse};
+use crate::fault::refuse;
 use crate::formula::prefix_notation;
 use crate::name::{Constants, declared};
 use crate::theorem::{PropositionalModule, Theorem};
-use crate::unit::{Name, Stated, Units, discard_units, read_units};
+use crate::unit::{Name, Stated, Units, read_units};
 use core_expr::{Memory, Text};
 use sqlite_items::Items;
 use std::alloc::Global;
-use tla_ast::Place;
+use tla_ast::{Fault, Place};
 use tla_lexer::lex;
 
 /// The texts of names.
@@ -76,8 +76,8 @@ fn theorems_of(
 }
 
 /// What units say, where each name is declared once and each node is one of a formula.
-fn check(alloc: Global, units: &Units) -> Result<PropositionalModule, ModuleFault>
-    ensures { Gives result (spec.checked units.now) }
+fn check(alloc: Global, units: &Units) -> Result<PropositionalModule, Fault>
+    ensures { Answers result (spec.checked units.now) }
 {
     let constants = declared(alloc, units)?;
     let mut outside = None;
@@ -97,8 +97,8 @@ fn check(alloc: Global, units: &Units) -> Result<PropositionalModule, ModuleFaul
 /// elsewhere stands at the token with which no unit of the form begins or goes on; the first name that was declared before; the
 /// first node that means nothing in a formula over the constants. Where the form leaves something out, the kind is
 /// `Unsupported` with the text `form`. `Memory` only where the allocator refuses memory.
-pub fn read(alloc: Global, bytes: &[u8], name: &[u8]) -> Result<PropositionalModule, ModuleFault>
-    ensures gives { Gives result (spec.module_of bytes.now name.now) }
+pub fn read(alloc: Global, bytes: &[u8], name: &[u8]) -> Result<PropositionalModule, Fault>
+    ensures gives { Answers result (spec.module_of bytes.now name.now) }
     ensures declared { IfOk result (λ m. All (λ t. All (formulas.IsDeclared (length m.constants)) t.goal) m.theorems) }
 {
     let tokens = lex(alloc, bytes)?;
@@ -106,7 +106,5 @@ pub fn read(alloc: Global, bytes: &[u8], name: &[u8]) -> Result<PropositionalMod
         return Err(refuse(alloc, tokens.header));
     }
     let units = read_units(alloc, &tokens)?;
-    let found = check(alloc, &units);
-    discard_units(units);
-    found
+    check(alloc, &units)
 }

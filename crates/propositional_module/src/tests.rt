@@ -2,13 +2,12 @@ use crate::formula::prefix_notation;
 use crate::name::declared;
 use crate::sign::Sign;
 use crate::unit::{Name, Units};
-use crate::{ModuleFault, read};
+use crate::read;
 use core_expr::Text;
-use operator_chain::discard;
 use sqlite_items::Items;
 use std::alloc::{AllocError, Global};
 use std::test::Fail;
-use tla_ast::{Form, Node, Place};
+use tla_ast::{Fault, Form, Node, Parts, Place};
 
 /// What a text is to be for a module M: the number of its constants and theorems, and of the last theorem the formula and the
 /// place of OBVIOUS; or the place and the text of its fault.
@@ -83,8 +82,8 @@ const ROWS: [(&[u8], Told); 16] = [
 /// Whether a text is read as it is to be; Err only in want of memory.
 fn is_told(alloc: Global, text: &[u8], told: &Told) -> Result<bool, AllocError> {
     match (read(alloc, text, b"M"), told) {
-        (Err(ModuleFault::Memory), _) => Err(AllocError),
-        (Err(ModuleFault::At { place, kind }), Told::Refused(line, column, wanted)) => {
+        (Err(Fault::Memory), _) => Err(AllocError),
+        (Err(Fault::At { place, kind }), Told::Refused(line, column, wanted)) => {
             let Ok(found) = kind.text(alloc) else {
                 return Err(AllocError);
             };
@@ -115,7 +114,7 @@ fn modules_are_read_or_refused(rt: HostRuntime) -> Result<(), Fail> {
 }
 
 /// A node at a column of the first line.
-fn node(form: Form, parts: Items<Node>, column: u64) -> Node {
+fn node(form: Form, parts: Parts<Node>, column: u64) -> Node {
     Node {
         form,
         parts,
@@ -128,7 +127,7 @@ fn name(alloc: Global, text: &[u8], column: u64) -> Result<Node, AllocError> {
     let Ok(text) = Text::of(alloc, text) else {
         return Err(AllocError);
     };
-    Ok(node(Form::Name(text), Items::new(alloc), column))
+    Ok(node(Form::Name(text), Parts::new(alloc), column))
 }
 
 /// An infix operator between two nodes, at a column of the first line.
@@ -142,7 +141,7 @@ fn infix(
     let Ok(sign) = Text::of(alloc, sign) else {
         return Err(AllocError);
     };
-    let mut parts = Items::new(alloc);
+    let mut parts = Parts::new(alloc);
     parts.push(left)?;
     parts.push(right)?;
     Ok(node(Form::Infix(sign), parts, column))
@@ -167,14 +166,13 @@ fn written(alloc: Global, root: Node) -> Result<(Items<Sign>, Option<Place>), Al
     };
     let mut outside = None;
     let signs = prefix_notation(alloc, &constants, &root, &mut outside)?;
-    discard(root);
     Ok((signs, outside))
 }
 
 #[test]
 fn junction_lists_nest_to_the_left(rt: HostRuntime) -> Result<(), Fail> {
     let alloc = rt.alloc();
-    let mut items = Items::new(alloc);
+    let mut items = Parts::new(alloc);
     items.push(name(alloc, b"A", 1)?)?;
     items.push(name(alloc, b"FALSE", 2)?)?;
     items.push(infix(

@@ -1,17 +1,16 @@
 ghost use Rattle.std.specs.Prelude.{◌≡◌, ◌+◌, ◌<◌, ◌≤◌, ◌∷◌, ◌++◌, [], length, slice_get, Ok, IfOk, IsTrue, OnOk, OnSome};
 ghost use Rattle.std.specs.Option.{option_copied};
 ghost use Rattle.tla_ast.specs.Listing.{IsTokenList};
-ghost use Rattle.propositional_module.specs.Faults.{Gives, GivesAs};
+ghost use Rattle.tla_ast.specs.Answers.{Answers, AnswersAs};
 ghost use Rattle.propositional_module.specs.Kept as kept;
 ghost use Rattle.propositional_module.specs.Units as spec;
 
-use crate::fault::{ModuleFault, refuse};
+use crate::fault::refuse;
 use core_expr::Text;
 use layout_parser::read_expr;
-use operator_chain::discard;
 use sqlite_items::Items;
-use std::alloc::{AllocError, Global};
-use tla_ast::{Node, Place, Tok, Token, Tokens, is_identifier};
+use std::alloc::Global;
+use tla_ast::{Fault, Node, Place, Tok, Token, Tokens, is_identifier};
 
 /// A name that is declared, with its place.
 #[derive(Debug, Drop)]
@@ -112,9 +111,9 @@ fn identifier(tokens: &Tokens, at: usize) -> Option<&Text>
 }
 
 /// The name at an index.
-fn read_name(alloc: Global, tokens: &Tokens, at: usize) -> Result<Name, ModuleFault>
+fn read_name(alloc: Global, tokens: &Tokens, at: usize) -> Result<Name, Fault>
     requires { IsTokenList tokens.now.list }
-    ensures value { Gives result (spec.name tokens.now.list at) }
+    ensures value { Answers result (spec.name tokens.now.list at) }
     ensures goes_on { OnOk result (kept.HasToken tokens.now.list (at + 1)) }
 {
     let place = place_at(tokens, at);
@@ -130,9 +129,9 @@ fn read_names(
     alloc: Global,
     tokens: &Tokens,
     from: usize,
-) -> Result<(Items<Name>, usize), ModuleFault>
+) -> Result<(Items<Name>, usize), Fault>
     requires { IsTokenList tokens.now.list }
-    ensures value { Gives result (spec.names tokens.now.list from) }
+    ensures value { Answers result (spec.names tokens.now.list from) }
     ensures within { IfOk result (λ r. r.1 < length tokens.now.list) }
 {
     let mut names = Items::new(alloc);
@@ -146,9 +145,9 @@ fn read_names(
 }
 
 /// The names of a unit of constants, where one stands first, and the index after it.
-fn read_constants(alloc: Global, tokens: &Tokens) -> Result<(Items<Name>, usize), ModuleFault>
+fn read_constants(alloc: Global, tokens: &Tokens) -> Result<(Items<Name>, usize), Fault>
     requires { IsTokenList tokens.now.list }
-    ensures value { Gives result (spec.constants tokens.now.list 0) }
+    ensures value { Answers result (spec.constants tokens.now.list 0) }
     ensures within { IfOk result (λ r. r.1 < length tokens.now.list) }
 {
     if is_word(tokens, 0, b"CONSTANT") || is_word(tokens, 0, b"CONSTANTS") {
@@ -163,10 +162,10 @@ fn read_title(
     alloc: Global,
     tokens: &Tokens,
     at: usize,
-) -> Result<(Option<Name>, usize), ModuleFault>
+) -> Result<(Option<Name>, usize), Fault>
     requires list { IsTokenList tokens.now.list }
     requires within { kept.HasToken tokens.now.list at }
-    ensures value { Gives result (Ok (spec.title tokens.now.list at)) }
+    ensures value { Answers result (Ok (spec.title tokens.now.list at)) }
     ensures goes_on { IfOk result (λ r. (at ≤ r.1) × (r.1 < length tokens.now.list)) }
 {
     match identifier(tokens, at) {
@@ -180,19 +179,19 @@ fn read_title(
 }
 
 /// The expression at an index, and the index after it.
-fn read_expression(alloc: Global, tokens: &Tokens, at: usize) -> Result<(Node, usize), ModuleFault>
+fn read_expression(alloc: Global, tokens: &Tokens, at: usize) -> Result<(Node, usize), Fault>
     requires list { IsTokenList tokens.now.list }
     requires within { at < length tokens.now.list }
-    ensures { Gives result (spec.expression tokens.now.list at) }
+    ensures { Answers result (spec.expression tokens.now.list at) }
 {
     let (node, next) = read_expr(alloc, tokens, at as u64, 0, 0)?;
     Ok((node, next as usize))
 }
 
 /// The theorem at an index, and the index after it.
-fn read_theorem(alloc: Global, tokens: &Tokens, at: usize) -> Result<(Stated, usize), ModuleFault>
+fn read_theorem(alloc: Global, tokens: &Tokens, at: usize) -> Result<(Stated, usize), Fault>
     requires { IsTokenList tokens.now.list }
-    ensures { Gives result (spec.theorem tokens.now.list at) }
+    ensures { Answers result (spec.theorem tokens.now.list at) }
 {
     let place = place_at(tokens, at);
     if !is_word(tokens, at, b"THEOREM") {
@@ -202,7 +201,6 @@ fn read_theorem(alloc: Global, tokens: &Tokens, at: usize) -> Result<(Stated, us
     let (goal, next) = read_expression(alloc, tokens, from)?;
     let leaf = place_at(tokens, next);
     if !is_word(tokens, next, b"OBVIOUS") {
-        discard(goal);
         return Err(refuse(alloc, leaf));
     }
     Ok((
@@ -216,28 +214,15 @@ fn read_theorem(alloc: Global, tokens: &Tokens, at: usize) -> Result<(Stated, us
     ))
 }
 
-/// Puts a theorem behind others.
-fn add(found: &mut Vec<Stated>, stated: Stated) -> Result<(), AllocError>
-    ensures { OnOk result (found.new.items ≡ found.old.items ++ stated ∷ []) }
-{
-    match found.push(stated) {
-        Ok(()) => Ok(()),
-        Err(failed) => {
-            discard(failed.value.goal);
-            Err(AllocError)
-        }
-    }
-}
-
 /// Puts the theorems from an index to the end token behind others.
 fn read_theorems(
     alloc: Global,
     tokens: &Tokens,
     from: usize,
     found: &mut Vec<Stated>,
-) -> Result<(), ModuleFault>
+) -> Result<(), Fault>
     requires { IsTokenList tokens.now.list }
-    ensures { GivesAs (λ _. found.new.items) result (kept.behind found.old.items (spec.theorems (length tokens.now.list) tokens.now.list from)) }
+    ensures { AnswersAs (λ _. found.new.items) result (kept.behind found.old.items (spec.theorems (length tokens.now.list) tokens.now.list from)) }
 {
     let mut at = from;
     for _turn in 0..tokens.list.len() {
@@ -245,43 +230,22 @@ fn read_theorems(
             return Ok(());
         }
         let (stated, next) = read_theorem(alloc, tokens, at)?;
-        add(found, stated)?;
+        found.push(stated)?;
         at = next;
     }
     Err(refuse(alloc, place_at(tokens, at)))
 }
 
-/// Drops theorems whose expressions may be deep.
-fn discard_all(mut theorems: Items<Stated>) {
-    while let Some(stated) = theorems.pop() {
-        discard(stated.goal);
-    }
-}
-
 /// The units of a module.
-pub fn read_units(alloc: Global, tokens: &Tokens) -> Result<Units, ModuleFault>
+pub fn read_units(alloc: Global, tokens: &Tokens) -> Result<Units, Fault>
     requires { IsTokenList tokens.now.list }
-    ensures { Gives result (spec.units tokens.now.list) }
+    ensures { Answers result (spec.units tokens.now.list) }
 {
     let (constants, at) = read_constants(alloc, tokens)?;
     let mut theorems = Vec::new(alloc);
-    match read_theorems(alloc, tokens, at, &mut theorems) {
-        Ok(()) => Ok(Units {
-            constants,
-            theorems: Items::from_vec(theorems),
-        }),
-        Err(fault) => {
-            discard_all(Items::from_vec(theorems));
-            Err(fault)
-        }
-    }
-}
-
-/// Drops units whose expressions may be deep.
-pub fn discard_units(units: Units) {
-    let Units {
-        constants: _,
-        theorems,
-    } = units;
-    discard_all(theorems);
+    read_theorems(alloc, tokens, at, &mut theorems)?;
+    Ok(Units {
+        constants,
+        theorems: Items::from_vec(theorems),
+    })
 }

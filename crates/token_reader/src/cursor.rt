@@ -166,6 +166,13 @@ impl<'a> Cursor<'a> {
         }
     }
 
+    /// The tokens that are left.
+    pub fn rest(&self) -> &'a [Token]
+        ensures { result.now ≡ self.now }
+    {
+        self.rest
+    }
+
     /// How many tokens are left.
     pub fn left(&self) -> usize
         ensures { result ≡ length self.now }

@@ -1,6 +1,6 @@
 use Rattle.std.proofs.Common.{◌≡◌, Bool, true, false, not, refl, sym, ap, ◌∙◌}
 use Rattle.std.specs.Str.{bytes_eq}
-use Rattle.propositional_module.specs.Faults.{Gives}
+use Rattle.tla_ast.specs.Answers.{Answers}
 use Rattle.propositional_module.specs.Units.{units}
 use Rattle.propositional_module.specs.Module.{module_of}
 use Rattle.propositional_module.proofs.Runs.{refused, fails-at}
@@ -35,7 +35,7 @@ returns-in_err-units-clause-gives c =
     c.from_residual-in_err-units.ensures.1
     (λ f e. units-fault c.args.bytes.now c.args.name.now ts f c.in_ok-tokens.ensures.gives name e) c.in_err-units.ensures
 
-gives : (c : goal.After-drop-tokens-3) → Gives c.check-found.result (module_of c.args.bytes.now c.args.name.now)
+gives : (c : goal.After-drop-tokens-3) → Answers c.check-found.result (module_of c.args.bytes.now c.args.name.now)
 gives c =
     let ts = c.in_ok-tokens.tokens in
     let name = ap (λ w. bytes_eq w c.args.name.now) (sym c.bytes.ensures) ∙ is-same _ (sym c.ne.ensures ∙ c.if-ne.false) in

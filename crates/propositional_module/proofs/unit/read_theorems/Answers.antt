@@ -1,7 +1,8 @@
 use Rattle.std.proofs.Common.{◌≡◌, ◌-◌, length, sym, subst, ap, arith}
 use Rattle.propositional_module.specs.Kept.{behind}
 use Rattle.propositional_module.specs.Units.{theorem, theorems}
-use Rattle.propositional_module.specs.Faults.{IsFault, left_out}
+use Rattle.propositional_module.specs.Faults.{left_out}
+use Rattle.tla_ast.specs.Answers.{Told}
 use Rattle.propositional_module.proofs.Runs.{fails-at, refused, theorems-next, theorems-fail, theorems-stop, one_more, no_more}
 use Rattle.propositional_module.proofs.unit.read_theorems.Goals as goal
 
@@ -37,5 +38,5 @@ pub returns : goal.returns
 returns c =
     let ts = c.args.tokens.now.list in
     let e = no_more (λ n. behind c.loop-turn.found.items (theorems n ts c.loop-turn.at)) _ c.loop-turn._turn c.loop-turn-test.false c.loop-turn.invariant in
-    let is = subst (λ p. IsFault c.refuse.result (left_out p)) c.place_at.ensures c.refuse.ensures in
+    let is = subst (λ p. Told (left_out p) c.refuse.result) c.place_at.ensures c.refuse.ensures in
     refused {R = Unit {0}} (λ _. c.loop-turn.found.items) c.refuse.result _ _ is e
