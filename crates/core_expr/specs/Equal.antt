@@ -127,14 +127,14 @@ mutual
   true-all_scoped n end h = refl
   true-all_scoped n (part e ps) h = both-and (is_scoped n e) (are_scoped n ps) (true-scoped n e h.0) (true-all_scoped n ps h.1)
 
-nat-refl : (n : ℕ) → nat_eq n n ≡ true
+pub nat-refl : (n : ℕ) → nat_eq n n ≡ true
 nat-refl n = grind (arith, nat_tests)
 
 pub lists-refl : (xs : List ℕ) → lists_equal xs xs ≡ true
 lists-refl [] = refl
 lists-refl (x ∷ xs) = both-and (nat_eq x x) (lists_equal xs xs) (nat-refl x) (lists-refl xs)
 
-sym-refl : (f : Sym) → same_sym f f ≡ true
+pub sym-refl : (f : Sym) → same_sym f f ≡ true
 sym-refl f =
     both-and (nat_eq f.number f.number) (elim (nat_eq (kind_code f.kind) (kind_code f.kind)) [ true ↦ nat_eq f.arity f.arity | false ↦ false ]) (nat-refl f.number)
     (both-and (nat_eq (kind_code f.kind) (kind_code f.kind)) (nat_eq f.arity f.arity) (nat-refl (kind_code f.kind)) (nat-refl f.arity))

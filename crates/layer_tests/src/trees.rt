@@ -211,6 +211,6 @@ fn texts_are_keys(rt: HostRuntime) -> Result<(), Fail> {
     assert!(rt; long == again);
     assert_eq!(rt; hash(&long), hash(&again));
     assert!(rt; hash(&short) != hash(&long));
-    assert!(rt; long.into_vec().as_slice() == b"Op1");
+    assert!(rt; long.into_vec().as_slice() == b"Op1".as_slice());
     Ok(())
 }

@@ -3,11 +3,10 @@ use Rattle.std.proofs.Common.{◌≡◌, ℕ, ◌<◌, Bool, true, false, ◌⊎
 use Rattle.std.specs.Prelude.{Option, Some, None}
 use Rattle.core_expr.specs.Tree.{Tree, not_}
 use Rattle.core_expr.specs.Terms.{same, nodes}
-use Rattle.core_expr.proofs.Equal.{same-true}
+use Rattle.core_expr.proofs.Equal.{same-true, same-refl}
 use Rattle.tableau_definition.specs.Terms.{first_some}
 use Rattle.tableau_definition.specs.Branches.{Branch, has, formulas, Closing, shuts_first, is_not_of, alone, partner}
 use Rattle.tableau_definition.specs.Propositional.{connective_closes, connective_closing_from, connective_closing}
-use Rattle.tableau_definition.proofs.Used.{same-self}
 use Rattle.propositional_search.specs.declared.node.Node.{Node}
 use Rattle.propositional_search.specs.declared.node.Node.TheVariants.{True, False, Symbol, Not, And, Or, Implies, Iff}
 use Rattle.propositional_search.specs.declared.branch.Entry.{Entry}
@@ -48,7 +47,7 @@ on-has (e ∷ b) f o = go (on-has b f) (same e.formula f) refl o
   where
     go : (On (formulas b) f → has b f ≡ true) → (x : Bool) → same e.formula f ≡ x → On (formulas (e ∷ b)) f → elim x [ true ↦ true | false ↦ has b f ] ≡ true
     go ih true q k = refl
-    go ih false q (inl k) = let s : same e.formula f ≡ true = subst (λ t. same e.formula t ≡ true) k (same-self e.formula) in cc
+    go ih false q (inl k) = let s : same e.formula f ≡ true = subst (λ t. same e.formula t ≡ true) k (same-refl e.formula) in cc
     go ih false q (inr k) = ih k
 
 -- f is the Not of g
@@ -212,7 +211,7 @@ module _ (ns : List Node) (ps : List ℕ) (r : IsReady ns ps) (es : List Entry) 
       off : (y : Bool) → has b (tree_of (trees_of ns) a) ≡ y → flag_at (stands_in (length ns) es) a ≡ false
       off true u =
           let k : same (tree_of (trees_of ns) a) (tree_of (trees_of ns) a) ≡ false = q.others (tree_of (trees_of ns) a) (has-on b (tree_of (trees_of ns) a) u) in
-          let m = same-self (tree_of (trees_of ns) a) in
+          let m = same-refl (tree_of (trees_of ns) a) in
           cc
       off false u = stands a l ∙ u
 

@@ -3,8 +3,7 @@ use Rattle.std.proofs.Common.{◌≡◌, ◌≢◌, ℕ, zero, suc, ◌<◌, Boo
 use Rattle.std.proofs.lemmas.List.Sums.{fold_push}
 use Rattle.std.specs.Prelude.{replicate, slice_set}
 use Rattle.std.specs.List.{list_any, fold}
-use Rattle.core_expr.proofs.Equal.{nat-same}
-use Rattle.tableau_definition.proofs.Used.{nat_self}
+use Rattle.core_expr.proofs.Equal.{nat-same, nat-refl}
 use Rattle.propositional_search.specs.declared.node.Node.{Node}
 use Rattle.propositional_search.specs.declared.node.Node.TheVariants.{True, False, Symbol, Not, And, Or, Implies, Iff}
 use Rattle.propositional_search.specs.declared.branch.Entry.{Entry}
@@ -32,7 +31,7 @@ flag-set : (fs : List Bool) (i j : ℕ) → i < length fs → flag_at (slice_set
 flag-set fs i j h = go (nat_eq j i) refl (flag_at fs j) refl
   where
     apart : nat_eq j j ≡ false → ⊥
-    apart e = let s : nat_eq j j ≡ true = nat_self j in cc
+    apart e = let s : nat_eq j j ≡ true = nat-refl j in cc
 
     go : (x : Bool) → nat_eq j i ≡ x → (y : Bool) → flag_at fs j ≡ y → flag_at (slice_set fs i true) j ≡ (y || x)
     go true e true k = let q : j ≡ i = nat-same j i e in rw q (get_or-set_same fs i true false h)
@@ -200,7 +199,7 @@ flag-unset : (fs : List Bool) (j i : ℕ) → i < length fs → flag_at (slice_s
 flag-unset fs j i h = go (nat_eq j i) refl
   where
     apart : nat_eq j j ≡ false → ⊥
-    apart e = let s : nat_eq j j ≡ true = nat_self j in cc
+    apart e = let s : nat_eq j j ≡ true = nat-refl j in cc
 
     go : (x : Bool) → nat_eq j i ≡ x → flag_at (slice_set fs j false) i ≡ elim x [ true ↦ false | false ↦ flag_at fs i ]
     go true e = let k : j ≡ i = nat-same j i e in rw k (get_or-set_same fs i false false h)

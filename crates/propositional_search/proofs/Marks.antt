@@ -1,8 +1,7 @@
 -- What is marked.
 use Rattle.std.proofs.Common.{◌≡◌, ℕ, zero, suc, ◌<◌, Bool, true, false, ◌||◌, List, [], ◌∷◌, length, get_or, refl, ap, ◌∙◌, arith, subst, nat_eq}
 use Rattle.std.proofs.Common.{get_or-set_same, get_or-set_other, ◌≢◌}
-use Rattle.core_expr.proofs.Equal.{nat-same}
-use Rattle.tableau_definition.proofs.Used.{nat_self}
+use Rattle.core_expr.proofs.Equal.{nat-same, nat-refl}
 use Rattle.std.specs.Prelude.{replicate, slice_set}
 use Rattle.std.specs.List.{list_any, fold}
 use Rattle.propositional_search.specs.declared.node.Node.{Node}
@@ -14,7 +13,7 @@ at_mark : (fs : List Bool) (j i : ℕ) → i < length fs → get_or (slice_set f
 at_mark fs j i h = go (nat_eq j i) refl
   where
     apart : nat_eq j j ≡ false → ⊥
-    apart e = let s : nat_eq j j ≡ true = nat_self j in cc
+    apart e = let s : nat_eq j j ≡ true = nat-refl j in cc
 
     go : (x : Bool) → nat_eq j i ≡ x → get_or (slice_set fs j true) i false ≡ (x || get_or fs i false)
     go true e = let k : j ≡ i = nat-same j i e in rw k (get_or-set_same fs i true false h)

@@ -3,8 +3,7 @@ use Rattle.std.proofs.Common.{◌≡◌, ℕ, zero, suc, ◌<◌, Bool, true, fa
 use Rattle.std.proofs.lemmas.Bool.Decides.{nat_tests}
 use Rattle.core_expr.specs.Tree.{Tree}
 use Rattle.core_expr.specs.Terms.{same}
-use Rattle.core_expr.proofs.Equal.{same-true}
-use Rattle.tableau_definition.proofs.Used.{same-self}
+use Rattle.core_expr.proofs.Equal.{same-true, same-refl}
 use Rattle.tableau_definition.specs.Branches.{Branch, has, add, add_all, used}
 use Rattle.propositional_search.specs.declared.branch.Entry.{Entry}
 use Rattle.propositional_search.specs.declared.branch.Added.{Added}
@@ -36,7 +35,7 @@ pub same_place : (ts : List Tree) (i j : ℕ) → IsDistinct ts → i < length t
 same_place ts i j d p q = go (nat_eq i j) refl
   where
     go : (x : Bool) → nat_eq i j ≡ x → same (tree_of ts i) (tree_of ts j) ≡ x
-    go true e = let k : i ≡ j = grind (arith, nat_tests) in rw k (same-self (tree_of ts j))
+    go true e = let k : i ≡ j = grind (arith, nat_tests) in rw k (same-refl (tree_of ts j))
     go false e = same-not-false _ _ (λ t. let k : i ≡ j = d i j p q t in grind (arith, nat_tests))
 
 pub has-shown : (ts : List Tree) (es : List Entry) (b : Branch) (i : ℕ) → IsDistinct ts → i < length ts → Shows ts es b → has b (tree_of ts i) ≡ has_place es i

@@ -8,6 +8,7 @@ use Rattle.core_expr.specs.Tree.Parts.{end, part}
 use Rattle.core_expr.specs.Put.{shift, put, inst, IsScoped, AreScoped}
 use Rattle.seq_calculus.specs.Schemas.{instance_of, parts, join, join_from, equals_each, equal_pairs}
 use Rattle.seq_calculus.specs.Calculus.{IsClosed, AllClosed, Der}
+use Rattle.core_expr.specs.Coding.{length-list_of}
 use Rattle.tableau_definition.specs.Ranks.{Left, list_of, member, left_side, right_or, members}
 use Rattle.core_expr.proofs.Laws.{IsScoped-put, IsScoped-shift, put_closed, shift_closed, put-put}
 use Rattle.tableau_definition.proofs.Natural.{by_schema, iff_self}
@@ -45,12 +46,8 @@ drop_front : (ps : Parts) (l : List Tree) → drop (size ps) (list_of ps ++ l) �
 drop_front end l = refl
 drop_front (part e ps) l = drop_front ps l
 
-length_list : (ps : Parts) → length (list_of ps) ≡ size ps
-length_list end = refl
-length_list (part e ps) = ap suc (length_list ps)
-
 length_both : (ps qs : Parts) → length (list_of ps ++ list_of qs) ≡ size ps + size qs
-length_both end qs = length_list qs ∙ zero_add (size qs)
+length_both end qs = length-list_of qs ∙ zero_add (size qs)
   where
     zero_add : (n : ℕ) → n ≡ 0 + n
     zero_add n = omega arith

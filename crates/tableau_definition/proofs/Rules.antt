@@ -6,6 +6,7 @@ use Rattle.seq_calculus.specs.Calculus.{Has, HasAll, IsClosed, AllClosed, Rule, 
 use Rattle.seq_calculus.specs.Calculus.Rule.{Ax, TrueR, FalseL, Weak, Cut, NotL, NotR, Refl}
 use Rattle.seq_calculus.specs.Calculus.Proof.{step}
 use Rattle.seq_calculus.specs.Calculus.Proofs.{no_more, more}
+pub use Rattle.seq_calculus.proofs.Renamed.{Der-closed}
 
 pub HasAll-cons : (x : Tree) (xs fs : List Tree) → HasAll xs fs → HasAll (x ∷ xs) fs
 HasAll-cons x xs [] h = tt
@@ -20,12 +21,6 @@ HasAll-one x xs = HasAll-cons x xs xs (HasAll-itself xs)
 
 pub HasAll-two : (x y : Tree) (xs : List Tree) → HasAll (x ∷ y ∷ xs) xs
 HasAll-two x y xs = HasAll-cons x (y ∷ xs) xs (HasAll-one y xs)
-
-pub Der-closed : (g d : List Tree) → Der g d → AllClosed g × AllClosed d
-Der-closed g d (p, h) = of p h
-  where
-    of : (p : Proof) → Correct p g d → AllClosed g × AllClosed d
-    of (step r ps) h = (h.0, h.1)
 
 pub weak : (g d g1 d1 : List Tree) → AllClosed g → AllClosed d → HasAll g g1 → HasAll d d1 → Der g1 d1 → Der g d
 weak g d g1 d1 cg cd hg hd h = (step (Weak g1 d1) (more h.0 no_more), (cg, cd, (hg, hd), (h.1, tt)))

@@ -6,6 +6,7 @@ use Rattle.core_expr.specs.Tree.Tree.{bound, app, node, bind}
 use Rattle.core_expr.specs.Tree.Parts.{end}
 use Rattle.core_expr.specs.Terms.{same, nodes}
 use Rattle.seq_calculus.specs.Calculus.{Has, HasAll}
+use Rattle.core_expr.proofs.Equal.{same-refl}
 use Rattle.tableau_definition.specs.Terms.{first_some}
 use Rattle.tableau_definition.specs.Branches.{Entry, Branch, formulas, has, add, add_all, used, Closing, shuts_first, is_not_of, alone, partner}
 use Rattle.tableau_definition.specs.Values.{Truth, Valued, opposite, both_true, one_true, same_truth, implied, in_list, merged, known_grounds, joined, turned}
@@ -14,7 +15,6 @@ use Rattle.tableau_definition.specs.Ranks.{Side, Step, Result, gives, oldest, sp
 use Rattle.tableau_definition.specs.Search.{first_rule, union, needs_of, split_number, apply_sides, apply, start, spare, search}
 use Rattle.tableau_definition.specs.Propositional.{Formula, Formulas, negated, Valuation, value_under, AllHold, valuation_of, connective_plain, yes_by, no_by, on_branch, connective_value, all_true, first_false, settle_between, connective_settle, connective_rule, connective_closes, connective_closing_from, connective_closing, SaturatedFalsifies}
 use Rattle.tableau_definition.specs.Propositional.Formula.{f_true, f_false, f_symbol, f_not, f_and, f_or, f_imp, f_iff}
-use Rattle.tableau_definition.proofs.Used.{same-self}
 use Rattle.tableau_definition.proofs.Connectives.{or_else, rules_left, closings_left, Formulas-append, SidesFormulas, StepFormulas, split-formulas}
 use Rattle.tableau_definition.proofs.Sides.{has-sound}
 use Rattle.tableau_definition.proofs.Kept.{Nth, Chosen, by-rank, chosen-formula, rule-formulas, formulas-add_all, formulas-used, EachBranch, IsStuck, run-keeps}
@@ -420,11 +420,11 @@ pair-none older (x ∷ fs) h f (inl e) (inl d) = not-itself f (sym e ∙ d)
 pair-none older (x ∷ fs) h f (inl e) (inr m) =
     let t = none-both (connective_closes older x) (connective_closing_from (older ++ x ∷ []) fs) h in
     let a : Apart (not_ f) f = later-apart (older ++ x ∷ []) fs t.1 (not_ f) f m (subst (Has (older ++ x ∷ [])) e (Has-last older x)) in
-    clash (same f f) (same-self f) a.0
+    clash (same f f) (same-refl f) a.0
 pair-none older (x ∷ fs) h f (inr k) (inl d) =
     let t = none-both (connective_closes older x) (connective_closing_from (older ++ x ∷ []) fs) h in
     let a : Apart f (not_ f) = later-apart (older ++ x ∷ []) fs t.1 f (not_ f) k (subst (Has (older ++ x ∷ [])) d (Has-last older x)) in
-    clash (same f f) (same-self f) a.1
+    clash (same f f) (same-refl f) a.1
 pair-none older (x ∷ fs) h f (inr k) (inr m) = pair-none (older ++ x ∷ []) fs (none-both (connective_closes older x) (connective_closing_from (older ++ x ∷ []) fs) h).1 f k m
 
 pub has-complete : (b : Branch) (f : Tree) → Has (formulas b) f → has b f ≡ true
@@ -433,7 +433,7 @@ has-complete (e ∷ b) f h = go (has-complete b f) (same e.formula f) refl h
   where
     go : (Has (formulas b) f → has b f ≡ true) → (x : Bool) → same e.formula f ≡ x → Has (formulas (e ∷ b)) f → elim x [ true ↦ true | false ↦ has b f ] ≡ true
     go ih true q h = refl
-    go ih false q (inl k) = absurd (clash (same e.formula f) (subst (λ z. same e.formula z ≡ true) k (same-self e.formula)) q)
+    go ih false q (inl k) = absurd (clash (same e.formula f) (subst (λ z. same e.formula z ≡ true) k (same-refl e.formula)) q)
     go ih false q (inr k) = ih k
 
 -- a formula that no rule fits is true under the branch's valuation

@@ -12,7 +12,7 @@ use Rattle.tableau_definition.specs.Branches.{Branch, formulas, has, is_truth_cl
 use Rattle.tableau_definition.specs.Values.{Truth, Valued, opposite, both_true, one_true, same_truth, implied, plainly_true, plainly_false, stands, known_grounds, in_list, merged, joined, turned, value, first_no}
 use Rattle.tableau_definition.specs.Values.Truth.{Yes, No, Unknown}
 use Rattle.core_expr.proofs.Equal.{same-true}
-use Rattle.tableau_definition.proofs.Sides.{has-sound, Closed-has, HasAll-append, HasAll-split, apart_not, clash-shut}
+use Rattle.tableau_definition.proofs.Sides.{has-sound, Closed-has, HasAll-append, HasAll-split, apart_not, clash-shut, Closed-append}
 
 -- what a value says: f is derived, or its Not
 abbrev pub Says : Truth → List Tree → Tree → Type 0
@@ -232,10 +232,6 @@ abbrev pub NoFine : List Tree → Option (List Tree) → List Tree → Type 0
 NoFine g0 None fs = Unit {0}
 NoFine g0 (Some gs) fs = HasAll g0 gs × ((g : List Tree) → AllClosed g → HasAll g gs → Der (fs ++ g) [])
 
-append_closed : (fs g : List Tree) → AllClosed fs → AllClosed g → AllClosed (fs ++ g)
-append_closed [] g h k = k
-append_closed (f ∷ fs) g h k = (h.0, append_closed fs g h.1 k)
-
 append_has : (fs g hs : List Tree) → HasAll g hs → HasAll (fs ++ g) hs
 append_has [] g hs h = h
 append_has (f ∷ fs) g hs h = HasAll-cons f (fs ++ g) hs (append_has fs g hs h)
@@ -253,7 +249,7 @@ first_no-fine b (f ∷ fs) c = go (first_no-fine b fs c.1) (value b f).truth (va
     go ih No gs k = (
       k.0,
       λ g cg n. not_elim (f ∷ (fs ++ g)) f
-          (grow (fs ++ g) (not_ f ∷ []) f c.0 (k.1 (fs ++ g) (append_closed fs g c.1 cg) (append_has fs g gs n)))
-          (head_ax (fs ++ g) f (append_closed fs g c.1 cg) c.0),
+          (grow (fs ++ g) (not_ f ∷ []) f c.0 (k.1 (fs ++ g) (Closed-append fs g c.1 cg) (append_has fs g gs n)))
+          (head_ax (fs ++ g) f (Closed-append fs g c.1 cg) c.0),
     )
     go ih Unknown gs k = more_on (first_no b fs) ih

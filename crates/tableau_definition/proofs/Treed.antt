@@ -3,6 +3,7 @@ use Rattle.std.specs.Prelude.{◌≡◌, ℕ, zero, suc, ◌≤◌, Bool, true, 
 use Rattle.std.proofs.Common.{refl, ap, sym, ◌∙◌, subst, inl, inr}
 use Rattle.core_expr.specs.Tree.{Tree, not_}
 use Rattle.seq_calculus.specs.Calculus.{Has, HasAll, IsClosed, AllClosed}
+use Rattle.core_expr.proofs.Equal.{same-refl, nat-refl}
 use Rattle.tableau_definition.proofs.Rules.{HasAll-one}
 use Rattle.core_expr.specs.Terms.{same}
 use Rattle.tableau_definition.specs.Branches.{Branch, formulas, has, add, add_all, used, Closing, closing}
@@ -18,7 +19,7 @@ use Rattle.tableau_definition.proofs.Sides.{Sided, FineResult, Shut, closing-shu
 use Rattle.tableau_definition.proofs.Says.{in_list-sound}
 use Rattle.tableau_definition.proofs.Sound.{first_rule-fine, IsClosedEnd}
 use Rattle.tableau_definition.proofs.Turned.{true_not_false, in_list-has, newly-has}
-use Rattle.tableau_definition.proofs.Used.{Member, Sub, HasIn, HasAllIn, Moves, Keeps, Below, OpensFine, same-self, nat_self, union-right, union-left, without-keeps, HasIn-has, HasAllIn-append, needs_of-has, HasIn-append, HasIn-used, HasIn-moves, Moves-self, not_next, keeps-moves, needs_of-below, Member-head, taken-fine, Opens-more, Below-added, fine-results}
+use Rattle.tableau_definition.proofs.Used.{Member, Sub, HasIn, HasAllIn, Moves, Keeps, Below, OpensFine, union-right, union-left, without-keeps, HasIn-has, HasAllIn-append, needs_of-has, HasIn-append, HasIn-used, HasIn-moves, Moves-self, not_next, keeps-moves, needs_of-below, Member-head, taken-fine, Opens-more, Below-added, fine-results}
 
 has-complete : (b : Branch) (f : Tree) → Has (formulas b) f → has b f ≡ true
 has-complete [] f h = absurd h
@@ -26,7 +27,7 @@ has-complete (e ∷ b) f h = go (has-complete b f) (same e.formula f) refl h
   where
     go : (Has (formulas b) f → has b f ≡ true) → (x : Bool) → same e.formula f ≡ x → Has (formulas (e ∷ b)) f → elim x [ true ↦ true | false ↦ has b f ] ≡ true
     go ih true q h = refl
-    go ih false q (inl k) = absurd (true_not_false (sym (subst (λ z. same e.formula z ≡ true) k (same-self e.formula)) ∙ q))
+    go ih false q (inl k) = absurd (true_not_false (sym (subst (λ z. same e.formula z ≡ true) k (same-refl e.formula)) ∙ q))
     go ih false q (inr k) = ih k
 
 has-used : (s r : Bool) (b : Branch) (i : ℕ) (f : Tree) → has (used s r b i) f ≡ has b f
@@ -204,7 +205,7 @@ module _ (w : Tree) where
             (both-tree o.branch r rule on k below l s e u v (without (union v (without u (suc k))) (suc k))
             (λ n a ne. without-keeps (union v (without u (suc k))) (suc k) n (union-right v (without u (suc k)) n (without-keeps u (suc k) n a ne)) ne)
             (λ n a ne. without-keeps (union v (without u (suc k))) (suc k) n (union-left v (without u (suc k)) n a) ne) x y))
-        right u x false q = absurd (true_not_false (sym (nat_self (suc k)) ∙ q))
+        right u x false q = absurd (true_not_false (sym (nat-refl (suc k)) ∙ q))
 
         sided : (u : List ℕ) → TreeIn lb u → (x : Bool) → contains u (suc k) ≡ x → Ok g (elim x [
           | true ↦ mark_next (suc k) (without u (suc k)) (record { branch = rb; path = record { number = suc k; mark = Waiting } ∷ o.path } ∷ os)

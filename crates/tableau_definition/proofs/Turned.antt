@@ -3,6 +3,7 @@ use Rattle.std.specs.Prelude.{◌≡◌, ℕ, Bool, true, false, Some, List, [],
 use Rattle.std.proofs.Common.{refl, sym, ◌∙◌, subst, inl, inr}
 use Rattle.core_expr.specs.Tree.{Tree, not_}
 use Rattle.seq_calculus.specs.Calculus.{Has, HasAll, IsClosed, AllClosed, Der}
+use Rattle.core_expr.proofs.Equal.{same-refl}
 use Rattle.tableau_definition.proofs.Rules.{HasAll-cons, HasAll-itself, HasAll-one, weak, refute}
 use Rattle.core_expr.specs.Terms.{same}
 use Rattle.tableau_definition.specs.Branches.{Branch, formulas, has, add_all}
@@ -14,7 +15,7 @@ use Rattle.tableau_definition.specs.Turns.Turns.{shut, one, first, both}
 use Rattle.tableau_definition.proofs.Sides.{Sided, Good, Fine, Shut, closing-shut, side-closed, side-all, added-all, has-sound, Closed-all, Closed-append, HasAll-append, HasAll-more, HasAll-front}
 use Rattle.tableau_definition.proofs.Says.{in_list-sound, HasAll-at}
 use Rattle.tableau_definition.proofs.Sound.{applies-fine}
-use Rattle.tableau_definition.proofs.Used.{same-self, narrow, weaker, HasAll-deep}
+use Rattle.tableau_definition.proofs.Used.{narrow, weaker, HasAll-deep}
 
 pub true_not_false : true ≡ false → ⊥
 true_not_false e = cc
@@ -25,7 +26,7 @@ in_list-has (x ∷ xs) f h = go (in_list-has xs f) (same x f) refl h
   where
     go : (Has xs f → in_list xs f ≡ true) → (b : Bool) → same x f ≡ b → Has (x ∷ xs) f → elim b [ true ↦ true | false ↦ in_list xs f ] ≡ true
     go ih true e h = refl
-    go ih false e (inl q) = absurd (true_not_false (sym (subst (λ z. same x z ≡ true) q (same-self x)) ∙ e))
+    go ih false e (inl q) = absurd (true_not_false (sym (subst (λ z. same x z ≡ true) q (same-refl x)) ∙ e))
     go ih false e (inr h) = ih h
 
 -- an added formula is on the branch, or newly added

@@ -12,7 +12,7 @@ use Rattle.core_expr.specs.Tree.Tree.{bound, app, node, bind}
 use Rattle.core_expr.specs.Tree.Parts.{end, part}
 use Rattle.core_expr.specs.Put.{IsScoped, AreScoped}
 use Rattle.core_expr.specs.Terms.{head_code, binder_code, lists_equal, same_sym, same, nodes, nodes_of, is_scoped, are_scoped}
-use Rattle.core_expr.proofs.Equal.{same-true, nat-same, lists-same, scoped-true}
+use Rattle.core_expr.proofs.Equal.{same-true, nat-same, lists-same, scoped-true, same-refl, sym-refl, sym-same, head-same, binder-same, lists-refl, nat-refl, true-scoped}
 use Rattle.core_expr.proofs.Laws.{IsScoped-shift, shift_closed}
 use Rattle.seq_calculus.specs.Calculus.{IsClosed}
 use Rattle.tableau_definition.specs.Terms.{occurs, occurs_in, replace, replaces}
@@ -20,7 +20,6 @@ use Rattle.tableau_definition.specs.Instances.{is_meta_kind, is_meta, Difference
 use Rattle.tableau_definition.specs.Instances.Difference.{Same, Clash, Bind}
 use Rattle.tableau_definition.specs.Unifiers.{assign, assigns, IsUnifier, answers, StandAlone, AllStandAlone}
 use Rattle.tableau_definition.proofs.Turned.{true_not_false}
-use Rattle.tableau_definition.proofs.Used.{same-self, sym_self}
 
 abbrev symbol_at : Sym → Tree → Sym
 symbol_at f (app g ps) = g
@@ -33,15 +32,6 @@ head_at _ = True
 abbrev binder_at : Tree → Binder
 binder_at (bind b ps e) = b
 binder_at _ = All
-
-sym_same : (f g : Sym) → same_sym f g ≡ true → f ≡ g
-sym_same f g h = ap (symbol_at f) (same-true (app f end) (app g end) (ap (λ x. elim x [ true ↦ true | false ↦ false ]) h))
-
-head_same : (h k : Head) → nat_eq (head_code h) (head_code k) ≡ true → h ≡ k
-head_same h k e = ap head_at (same-true (node h [] end) (node k [] end) (ap (λ x. elim x [ true ↦ true | false ↦ false ]) e))
-
-binder_same : (h k : Binder) → nat_eq (binder_code h) (binder_code k) ≡ true → h ≡ k
-binder_same h k e = ap binder_at (same-true (bind h end (bound 0)) (bind k end (bound 0)) (ap (λ x. elim x [ true ↦ true | false ↦ false ]) e))
 
 -- the first difference is none: the terms are equal
 clash-same : (s t : Tree) → clash_of s t ≡ Same → ⊥
@@ -70,20 +60,20 @@ mutual
   difference-same (app f ps) (app g qs) h = go (same_sym f g) refl (differences-same ps qs) h
     where
       go : (x : Bool) → same_sym f g ≡ x → (differences ps qs ≡ Same → ps ≡ qs) → elim x [ true ↦ differences ps qs | false ↦ clash_of (app f ps) (app g qs) ] ≡ Same → app f ps ≡ app g qs
-      go true e ih h = λ i. app (sym_same f g e i) (ih h i)
+      go true e ih h = λ i. app (sym-same f g e i) (ih h i)
       go false e ih h = absurd (clash-same (app f ps) (app g qs) h)
   difference-same (node k ns ps) (node l ms qs) h = go (nat_eq (head_code k) (head_code l)) refl (lists_equal ns ms) refl (differences-same ps qs) h
     where
       go : (x : Bool) → nat_eq (head_code k) (head_code l) ≡ x → (y : Bool) → lists_equal ns ms ≡ y → (differences ps qs ≡ Same → ps ≡ qs)
           → elim x [ true ↦ elim y [ true ↦ differences ps qs | false ↦ Clash ] | false ↦ Clash ] ≡ Same → node k ns ps ≡ node l ms qs
-      go true e true q ih h = λ i. node (head_same k l e i) (lists-same ns ms q i) (ih h i)
+      go true e true q ih h = λ i. node (head-same k l e i) (lists-same ns ms q i) (ih h i)
       go true e false q ih h = cc
       go false e y q ih h = cc
   difference-same (bind k ps d) (bind l qs e) h = go (nat_eq (binder_code k) (binder_code l)) refl (differences-same ps qs) (difference-same d e) h
     where
       go : (x : Bool) → nat_eq (binder_code k) (binder_code l) ≡ x → (differences ps qs ≡ Same → ps ≡ qs) → (difference d e ≡ Same → d ≡ e)
           → elim x [ true ↦ then (differences ps qs) (difference d e) | false ↦ Clash ] ≡ Same → bind k ps d ≡ bind l qs e
-      go true q ih jh h = let p = then-same (differences ps qs) (difference d e) h in λ i. bind (binder_same k l q i) (ih p.0 i) (jh p.1 i)
+      go true q ih jh h = let p = then-same (differences ps qs) (difference d e) h in λ i. bind (binder-same k l q i) (ih p.0 i) (jh p.1 i)
       go false q ih jh h = cc
   difference-same s t h = absurd (clash-same s t h)
 
@@ -207,7 +197,7 @@ mutual
   difference-binds (app f ps) (app g qs) m u h = go (same_sym f g) refl (differences-binds ps qs m u) h
     where
       other : (x : Bool) → same_sym f g ≡ x → x ≡ false → app f ps ≡ app g qs → ⊥
-      other x e q k = true_not_false (sym (ap (same_sym f) (sym (ap (symbol_at f) k)) ∙ sym_self f) ∙ (e ∙ q))
+      other x e q k = true_not_false (sym (ap (same_sym f) (sym (ap (symbol_at f) k)) ∙ sym-refl f) ∙ (e ∙ q))
 
       inner : (ps qs : Parts) → AllBind ps qs m u → differences ps qs ≡ Bind m u → Binds (app f ps) (app g qs) m u
       inner end end b h = cc
@@ -313,21 +303,14 @@ abbrev index_at : Tree → ℕ
 index_at (bound i) = i
 index_at _ = 0
 
-nat_self : (n : ℕ) → nat_eq n n ≡ true
-nat_self n = grind (arith, nat_tests)
-
-list_self : (ns : List ℕ) → lists_equal ns ns ≡ true
-list_self [] = refl
-list_self (n ∷ ns) = ap (λ x. elim x [ true ↦ lists_equal ns ns | false ↦ false ]) (nat_self n) ∙ list_self ns
-
 other_numbers : (m n : ℕ) → nat_eq m n ≡ false → m ≡ n → ⊥
-other_numbers m n h e = true_not_false (sym (nat_self n) ∙ subst (λ x. nat_eq x n ≡ false) e h)
+other_numbers m n h e = true_not_false (sym (nat-refl n) ∙ subst (λ x. nat_eq x n ≡ false) e h)
 
 other_lists : (ms ns : List ℕ) → lists_equal ms ns ≡ false → ms ≡ ns → ⊥
-other_lists ms ns h e = true_not_false (sym (list_self ns) ∙ subst (λ x. lists_equal x ns ≡ false) e h)
+other_lists ms ns h e = true_not_false (sym (lists-refl ns) ∙ subst (λ x. lists_equal x ns ≡ false) e h)
 
 other_symbols : (f g : Sym) → same_sym f g ≡ false → f ≡ g → ⊥
-other_symbols f g h e = true_not_false (sym (sym_self g) ∙ subst (λ x. same_sym x g ≡ false) e h)
+other_symbols f g h e = true_not_false (sym (sym-refl g) ∙ subst (λ x. same_sym x g ≡ false) e h)
 
 none_or_some : (e : Tree) (ps : Parts) → end ≡ part e ps → ⊥
 none_or_some e ps h = cc
@@ -351,7 +334,7 @@ mutual
       apart k = none_or_some (assign v t) (assigns v qs) (ap (arguments_at end) (sym (assign-alone v f k) ∙ e))
 
       go : (x : Bool) → same_sym f g ≡ x → elim x [ true ↦ Clash | false ↦ clash_of (app f end) (app g (part t qs)) ] ≡ Clash → ⊥
-      go true q h = apart (subst (λ x. is_meta_kind x.kind ≡ false) (sym (sym_same f g q)) b.0)
+      go true q h = apart (subst (λ x. is_meta_kind x.kind ≡ false) (sym (sym-same f g q)) b.0)
       go false q h = apart (clash-neither (app f end) (app g (part t qs)) h).0
   difference-clash v (app f (part s ps)) (app g end) a b h e = go (same_sym f g) refl h
     where
@@ -359,7 +342,7 @@ mutual
       apart k = none_or_some (assign v s) (assigns v ps) (ap (arguments_at end) (sym (assign-alone v g k) ∙ sym e))
 
       go : (x : Bool) → same_sym f g ≡ x → elim x [ true ↦ Clash | false ↦ clash_of (app f (part s ps)) (app g end) ] ≡ Clash → ⊥
-      go true q h = apart (subst (λ x. is_meta_kind x.kind ≡ false) (sym_same f g q) a.0)
+      go true q h = apart (subst (λ x. is_meta_kind x.kind ≡ false) (sym-same f g q) a.0)
       go false q h = apart (clash-neither (app f (part s ps)) (app g end) h).1
   difference-clash v (app f (part s ps)) (app g (part t qs)) a b h e =
       go (same_sym f g) refl (λ k. differences-clash v (part s ps) (part t qs) (a.1, a.2) (b.1, b.2) k (ap (arguments_at end) e)) h
@@ -493,20 +476,6 @@ module _ (f : Sym) (kf : is_meta_kind f.kind ≡ true) (u : Tree) where
 -- closed terms
 widened : (n : ℕ) (u : Tree) → IsScoped 0 u → IsScoped n u
 widened n u h = subst (IsScoped n) (shift_closed 0 0 n u (omega arith) h) (IsScoped-shift 0 0 n n u (omega arith) h)
-
-mutual
-  true-scoped : (n : ℕ) (e : Tree) → IsScoped n e → is_scoped n e ≡ true
-  true-scoped n (bound i) h = var n i h
-    where
-      var : (n i : ℕ) → i < n → nat_lt i n ≡ true
-      var n i h = grind (arith, nat_tests)
-  true-scoped n (app f ps) h = all-true-scoped n ps h
-  true-scoped n (node k ns ps) h = all-true-scoped n ps h
-  true-scoped n (bind b ps e) h = ap (λ x. elim x [ true ↦ is_scoped (suc n) e | false ↦ false ]) (all-true-scoped n ps h.0) ∙ true-scoped (suc n) e h.1
-
-  all-true-scoped : (n : ℕ) (ps : Parts) → AreScoped n ps → are_scoped n ps ≡ true
-  all-true-scoped n end h = refl
-  all-true-scoped n (part e ps) h = ap (λ x. elim x [ true ↦ are_scoped n ps | false ↦ false ]) (true-scoped n e h.0) ∙ all-true-scoped n ps h.1
 
 mutual
   scoped-back : (v : Sym → Tree) (n : ℕ) (e : Tree) → IsScoped n (assign v e) → IsScoped n e
@@ -643,7 +612,7 @@ On-dropped f [] g h ne = h
 On-dropped f (k ∷ ls) g h ne = go (same_sym k f) refl (On-dropped f ls g) h
   where
     go : (x : Bool) → same_sym k f ≡ x → (On ls g → (g ≡ f → ⊥) → On (dropped f ls) g) → (k ≡ g) ⊎ On ls g → On (either_list x (dropped f ls) (k ∷ dropped f ls)) g
-    go true e ih (inl p) = absurd (ne (sym p ∙ sym_same k f e))
+    go true e ih (inl p) = absurd (ne (sym p ∙ sym-same k f e))
     go true e ih (inr p) = ih p ne
     go false e ih (inl p) = inl p
     go false e ih (inr p) = inr (ih p ne)
@@ -656,7 +625,7 @@ module _ (f : Sym) (kf : is_meta_kind f.kind ≡ true) (u : Tree) (ls : List Sym
   mutual
     covers-off : (e : Tree) → Covers ls e → occurs (app f end) e ≡ false → Covers (dropped f ls) e
     covers-off (bound i) c h = tt
-    covers-off (app g end) c h = λ k. On-dropped f ls g (c k) (λ e. true_not_false (sym (ap (λ x. same (app x end) (app g end)) (sym e) ∙ same-self (app g end)) ∙ (or_false (same (app f end) (app g end)) false h).0))
+    covers-off (app g end) c h = λ k. On-dropped f ls g (c k) (λ e. true_not_false (sym (ap (λ x. same (app x end) (app g end)) (sym e) ∙ same-refl (app g end)) ∙ (or_false (same (app f end) (app g end)) false h).0))
     covers-off (app g (part e ps)) c h = let p = or_false (same (app f end) (app g (part e ps))) (occurs_in (app f end) (part e ps)) h in let q = or_false (occurs (app f end) e) (occurs_in (app f end) ps) p.1 in (covers-off e c.0 q.0, all-covers-off ps c.1 q.1)
     covers-off (node k ns ps) c h = all-covers-off ps c h
     covers-off (bind b ps e) c h = let p = or_false (occurs_in (app f end) ps) (occurs (app f end) e) h in (all-covers-off ps c.0 p.0, covers-off e c.1 p.1)
@@ -673,7 +642,7 @@ module _ (f : Sym) (kf : is_meta_kind f.kind ≡ true) (u : Tree) (ls : List Sym
         where
           go : (x : Bool) → same (app f end) (app g end) ≡ x → Covers (dropped f ls) (either_term x u (app g end))
           go true q = cu
-          go false q = λ k. On-dropped f ls g (c k) (λ e. true_not_false (sym (ap (λ x. same (app x end) (app g end)) (sym e) ∙ same-self (app g end)) ∙ q))
+          go false q = λ k. On-dropped f ls g (c k) (λ e. true_not_false (sym (ap (λ x. same (app x end) (app g end)) (sym e) ∙ same-refl (app g end)) ∙ q))
       covers-replace (app g (part e ps)) c = subst (Covers (dropped f ls)) (sym (replace-applied f kf u g e ps)) (covers-replace e c.0, all-covers-replace ps c.1)
       covers-replace (node k ns ps) c = all-covers-replace ps c
       covers-replace (bind b ps e) c = (all-covers-replace ps c.0, covers-replace e c.1)

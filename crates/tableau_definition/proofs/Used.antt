@@ -16,7 +16,7 @@ use Rattle.tableau_definition.specs.Search.{first_rule, Mark, Turning, Open, con
 use Rattle.tableau_definition.specs.Search.Mark.{Left, Waiting, Needed}
 use Rattle.tableau_definition.specs.Search.Next.{Stuck, Goes}
 use Rattle.tableau_definition.specs.Search.End.{Saturated, Spent}
-use Rattle.core_expr.proofs.Equal.{same-true, nat-same}
+use Rattle.core_expr.proofs.Equal.{same-true, nat-same, nat-refl, same-refl}
 use Rattle.tableau_definition.proofs.Sides.{Sided, Good, Fine, FineResult, Shut, closing-shut, side-closed, added-all, Closed-all, Closed-append, HasAll-append, HasAll-more, HasAll-front}
 use Rattle.tableau_definition.proofs.Sound.{first_rule-fine, IsClosedEnd}
 
@@ -27,9 +27,6 @@ Member ns n = contains ns n ≡ true
 abbrev pub Sub : List ℕ → List ℕ → Type 0
 Sub ns us = (n : ℕ) → Member ns n → Member us n
 
-pub nat_self : (n : ℕ) → nat_eq n n ≡ true
-nat_self n = grind (arith, nat_tests)
-
 Member-cases : (m : ℕ) (ms : List ℕ) (n : ℕ) → Member (m ∷ ms) n → (m ≡ n) ⊎ Member ms n
 Member-cases m ms n = go (nat_eq m n) refl
   where
@@ -38,7 +35,7 @@ Member-cases m ms n = go (nat_eq m n) refl
     go false e h = inr h
 
 pub Member-head : (m : ℕ) (ms : List ℕ) → Member (m ∷ ms) m
-Member-head m ms = ap (λ x. elim x [ true ↦ true | false ↦ contains ms m ]) (nat_self m)
+Member-head m ms = ap (λ x. elim x [ true ↦ true | false ↦ contains ms m ]) (nat-refl m)
 
 Member-tail : (m : ℕ) (ms : List ℕ) (n : ℕ) → Member ms n → Member (m ∷ ms) n
 Member-tail m ms n h = go (nat_eq m n)
@@ -75,31 +72,6 @@ without-keeps (k ∷ ns) n m h ne = go (nat_eq k n) refl (Member-cases k ns m h)
     go false e (inl q) ih = subst (Member (k ∷ without ns n)) q (Member-head k (without ns n))
     go false e (inr h) ih = Member-tail k (without ns n) m (ih h)
 
--- the test of equal trees is true on one tree
-lists_self : (ns : List ℕ) → lists_equal ns ns ≡ true
-lists_self [] = refl
-lists_self (n ∷ ns) = ap (λ x. elim x [ true ↦ lists_equal ns ns | false ↦ false ]) (nat_self n) ∙ lists_self ns
-
-pub sym_self : (f : Sym) → same_sym f f ≡ true
-sym_self f =
-    ap (λ x. elim x [ true ↦ elim (nat_eq (kind_code f.kind) (kind_code f.kind)) [ true ↦ nat_eq f.arity f.arity | false ↦ false ] | false ↦ false ]) (nat_self f.number)
-    ∙ ap (λ x. elim x [ true ↦ nat_eq f.arity f.arity | false ↦ false ]) (nat_self (kind_code f.kind)) ∙ nat_self f.arity
-
-mutual
-  pub same-self : (t : Tree) → same t t ≡ true
-  same-self (bound i) = nat_self i
-  same-self (app f ps) = ap (λ x. elim x [ true ↦ sames ps ps | false ↦ false ]) (sym_self f) ∙ sames-self ps
-  same-self (node h ns ps) =
-      ap (λ x. elim x [ true ↦ elim (lists_equal ns ns) [ true ↦ sames ps ps | false ↦ false ] | false ↦ false ]) (nat_self (head_code h))
-      ∙ ap (λ x. elim x [ true ↦ sames ps ps | false ↦ false ]) (lists_self ns) ∙ sames-self ps
-  same-self (bind h ps e) =
-      ap (λ x. elim x [ true ↦ elim (same e e) [ true ↦ sames ps ps | false ↦ false ] | false ↦ false ]) (nat_self (binder_code h))
-      ∙ ap (λ x. elim x [ true ↦ sames ps ps | false ↦ false ]) (same-self e) ∙ sames-self ps
-
-  sames-self : (ps : Parts) → sames ps ps ≡ true
-  sames-self end = refl
-  sames-self (part e ps) = ap (λ x. elim x [ true ↦ sames ps ps | false ↦ false ]) (same-self e) ∙ sames-self ps
-
 -- f stands on the branch, and its needs are in u
 abbrev pub HasIn : Branch → List ℕ → Tree → Type 0
 HasIn [] u f = ⊥
@@ -134,7 +106,7 @@ needs_at-has (e ∷ b) u f h s = go (needs_at-has b u f) (same e.formula f) refl
         → Sub (elim x [ true ↦ e.needs | false ↦ needs_at b f ]) u
         → HasIn (e ∷ b) u f
     go ih true q h s = inl (same-true e.formula f q, s)
-    go ih false q (inl k) s = let c : same e.formula f ≡ true = subst (λ z. same e.formula z ≡ true) k (same-self e.formula) in absurd (two q c)
+    go ih false q (inl k) s = let c : same e.formula f ≡ true = subst (λ z. same e.formula z ≡ true) k (same-refl e.formula) in absurd (two q c)
       where
         two : same e.formula f ≡ false → same e.formula f ≡ true → ⊥
         two p q = let r : true ≡ false = sym q ∙ p in cc
@@ -483,7 +455,7 @@ module _ (g : Type 0) (o : Open) (os : List Open) (k i : ℕ) (c : AllClosed (fo
       right u x false q = absurd (two q)
         where
           two : nat_eq (suc k) (suc k) ≡ false → ⊥
-          two q = let z : true ≡ false = sym (nat_self (suc k)) ∙ q in cc
+          two q = let z : true ≡ false = sym (nat-refl (suc k)) ∙ q in cc
 
       sided : (u : List ℕ) → RefutedIn lb u → (x : Bool) → contains u (suc k) ≡ x → Ok g (elim x [
         | true ↦ mark_next (suc k) (without u (suc k)) (record { branch = rb; path = record { number = suc k; mark = Waiting } ∷ o.path } ∷ os)
