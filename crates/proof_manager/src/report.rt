@@ -119,7 +119,7 @@ fn push_leaf_line(
     requires { HasValues (length answered.now.order.items) answered.now.answer }
     ensures { OnOk result (out.new.items
         ≡ out.old.items ++ leaf_line theorem.now
-            (names_at constants.now answered.now.order.items) answered.now.answer) }
+        (names_at constants.now answered.now.order.items) answered.now.answer) }
 {
     out.extend_from_slice(b"  leaf ")?;
     push_place(out, theorem.leaf)?;
@@ -138,7 +138,7 @@ pub fn push_theorem(
     requires { HasValues (length answered.now.order.items) answered.now.answer }
     ensures { OnOk result (out.new.items
         ≡ out.old.items ++ theorem_lines theorem.now
-            (names_at constants.now answered.now.order.items) answered.now.answer) }
+        (names_at constants.now answered.now.order.items) answered.now.answer) }
 {
     push_theorem_line(out, theorem, &answered.answer)?;
     push_leaf_line(out, constants, theorem, answered)

@@ -1,5 +1,5 @@
 -- What a device tells of its content.
-use Rattle.std.specs.Prelude.{◌≡◌, ℕ, ◌++◌, List, [], ◌∷◌, take, Option, None, Some, Result, Ok, Err, Vec, option_map, if◌then◌else◌}
+use Rattle.std.specs.Prelude.{◌≡◌, ◌≢◌, is_some, ℕ, ◌++◌, List, [], ◌∷◌, take, Option, None, Some, Result, Ok, Err, Vec, option_map, if◌then◌else◌}
 use Rattle.std.specs.Str.{bytes_eq}
 use Rattle.std.specs.declared.alloc.Global.{Global}
 use Rattle.tla_io.specs.declared.faults.Failed.{Failed}
@@ -46,3 +46,11 @@ Takes old new piece (Err fault) = new ≡ old
 -- the contents of a device that tells of no name
 abbrev pub untold : Bytes → Option Bytes
 untold name = None
+
+-- of all names but this one the device tells what it told before
+abbrev pub SameElsewhere : (Bytes → Option Bytes) → (Bytes → Option Bytes) → Bytes → Type 0
+SameElsewhere old new file = (name : Bytes) → name ≢ file → new name ≡ old name
+
+-- the device tells of the names of which it told before
+abbrev pub SameNames : (Bytes → Option Bytes) → (Bytes → Option Bytes) → Type 0
+SameNames old new = (name : Bytes) → is_some (new name) ≡ is_some (old name)

@@ -2,7 +2,7 @@
 
 ghost use Rattle.std.specs.Prelude.{◌≡◌, ◌≢◌, Option, List, ℕ, is_some, OnOk};
 ghost use Rattle.tla_io.specs.Causes.{HasCause, HasCacheCause};
-ghost use Rattle.tla_io.specs.Told.{ReadsFront, with_content};
+ghost use Rattle.tla_io.specs.Told.{ReadsFront, with_content, SameElsewhere, SameNames};
 
 use crate::faults::{CacheFault, Failed};
 use std::alloc::Global;
@@ -24,9 +24,10 @@ pub trait CacheFile {
     /// Puts these bytes in the place of a file's content, and takes no memory. After a failure nothing is known of that
     /// content; that of all other names is as it was.
     fn replace(&mut self, file: &str, bytes: Vec<u8>) -> Result<(), Failed>
-        ensures replaced { OnOk result (content self.new ≡ with_content (content self.old) file.now bytes.items) }
-        ensures others { (name : List ℕ) → name ≢ file.now → content self.new name ≡ content self.old name }
-        ensures names { (name : List ℕ) → is_some (content self.new name) ≡ is_some (content self.old name) }
+        ensures replaced { OnOk result (content self.new
+            ≡ with_content (content self.old) file.now bytes.items) }
+        ensures others { SameElsewhere (content self.old) (content self.new) file.now }
+        ensures names { SameNames (content self.old) (content self.new) }
         ensures cause { HasCause (count self.old) (count self.new) result };
 
     /// How often the device has failed, up to 2^64 - 1.

@@ -47,7 +47,8 @@ impl Calls {
 
     /// Counts a fault.
     pub(crate) fn fail(&mut self)
-        ensures counted { self.new ≡ record self.old { faults = min (self.old.faults + 1) (2 ^ 64 - 1) } }
+        ensures counted { self.new
+            ≡ record self.old { faults = min (self.old.faults + 1) (2 ^ 64 - 1) } }
         ensures kept { self.old.faults ≤ self.new.faults }
     {
         self.faults = self.faults.saturating_add(1);

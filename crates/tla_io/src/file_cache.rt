@@ -3,7 +3,7 @@
 ghost use Rattle.std.specs.Prelude.{◌≡◌, ◌≢◌, ◌≤◌, ◌<◌, ◌+◌, ◌++◌, ◌↔◌, List, ℕ, is_some, OnOk, IfOk, IfSome, IsErr, IsNone, IsTrue, codes, length, take};
 ghost use Rattle.tla_io.specs.Causes.{HasCause, HasCacheCause};
 ghost use Rattle.tla_io.specs.Files.{IsReplaced, ReadsFile};
-ghost use Rattle.tla_io.specs.Told.{untold, with_content};
+ghost use Rattle.tla_io.specs.Told.{untold, with_content, SameElsewhere, SameNames};
 
 use crate::cache_file::CacheFile;
 use crate::faults::{CacheFault, Failed};
@@ -98,12 +98,12 @@ impl<'a, F: Folder> CacheFile for FileCache<'a, F> {
 
     fn replace(&mut self, file: &str, bytes: Vec<u8>) -> Result<(), Failed>
         ensures replaced { OnOk result (untold ≡ with_content untold file.now bytes.items) }
-        ensures others { (name : List ℕ) → name ≢ file.now → untold name ≡ untold name }
-        ensures names { (name : List ℕ) → is_some (untold name) ≡ is_some (untold name) }
+        ensures others { SameElsewhere untold untold file.now }
+        ensures names { SameNames untold untold }
         ensures cause { HasCause self.old.faults self.new.faults result }
         ensures long { 4096 < length file.now + 4 → IsErr result }
-        ensures put { OnOk result (IsReplaced (F.was_put self.old.device) (F.was_renamed self.old.device)
-            file.now bytes.items) }
+        ensures put { OnOk result (IsReplaced (F.was_put self.old.device)
+            (F.was_renamed self.old.device) file.now bytes.items) }
     {
         if is_replaced(self.folder, file, bytes.as_slice()) {
             return Ok(());

@@ -3,7 +3,7 @@
 ghost use Rattle.std.specs.Prelude.{◌≡◌, ◌≢◌, ◌↔◌, List, ℕ, Some, None, take, is_some, IfOk, OnOk, IsErr, IsErrOf};
 ghost use Rattle.tla_io.specs.Causes.{HasCause, HasCacheCause};
 ghost use Rattle.tla_io.specs.InMemory.{schedule, FailsNext, content_of, content_or_empty, after_read, after_replace};
-ghost use Rattle.tla_io.specs.Told.{ReadsFront, with_content};
+ghost use Rattle.tla_io.specs.Told.{ReadsFront, with_content, SameElsewhere, SameNames};
 
 use crate::cache_file::CacheFile;
 use crate::calls::Calls;
@@ -67,7 +67,8 @@ impl CacheFile for MemCache {
         ensures cause { HasCacheCause self.old.calls.faults self.new.calls.faults result }
         ensures failed { IsErrOf result CacheFault.Failed ↔ FailsNext self.old.calls }
         ensures other { content_of self.old file.now ≡ None → ¬ (IsErrOf result CacheFault.Memory) }
-        ensures front { IfOk result (λ v. v.items ≡ take at_most (content_or_empty self.old file.now)) }
+        ensures front { IfOk result (λ v. v.items
+            ≡ take at_most (content_or_empty self.old file.now)) }
         ensures after { self.new ≡ after_read self.old result }
     {
         if self.calls.begin() {
@@ -85,9 +86,10 @@ impl CacheFile for MemCache {
 
     /// Under another name than the one held it drops the bytes.
     fn replace(&mut self, file: &str, bytes: Vec<u8>) -> Result<(), Failed>
-        ensures replaced { OnOk result (content_of self.new ≡ with_content (content_of self.old) file.now bytes.items) }
-        ensures others { (name : List ℕ) → name ≢ file.now → content_of self.new name ≡ content_of self.old name }
-        ensures names { (name : List ℕ) → is_some (content_of self.new name) ≡ is_some (content_of self.old name) }
+        ensures replaced { OnOk result (content_of self.new
+            ≡ with_content (content_of self.old) file.now bytes.items) }
+        ensures others { SameElsewhere (content_of self.old) (content_of self.new) file.now }
+        ensures names { SameNames (content_of self.old) (content_of self.new) }
         ensures cause { HasCause self.old.calls.faults self.new.calls.faults result }
         ensures failed { IsErr result ↔ FailsNext self.old.calls }
         ensures after { self.new ≡ after_replace self.old file.now bytes.items result }

@@ -34,7 +34,8 @@ impl MemShelf {
     pub fn new(entries: Vec<(Text, Vec<u8>)>, fails: Vec<u64>) -> MemShelf
         ensures entries { result.entries ≡ entries_of entries.items }
         ensures calls { result.calls ≡ schedule fails.items }
-        ensures told { ⟦<MemShelf as Shelf>⟧.folder result ≡ Some (folder_of (entries_of entries.items)) }
+        ensures told { ⟦<MemShelf as Shelf>⟧.folder result
+            ≡ Some (folder_of (entries_of entries.items)) }
         ensures count { ⟦<MemShelf as Shelf>⟧.count result ≡ 0 }
     {
         MemShelf {
@@ -46,7 +47,8 @@ impl MemShelf {
 
 /// The text of the first entry with a name.
 fn entry<'a>(entries: &'a [(Text, Vec<u8>)], name: &str) -> Option<&'a Vec<u8>>
-    ensures { option_map (λ v. v.now.items) result ≡ folder_of (entries_of entries.entry.now) name.now }
+    ensures { option_map (λ v. v.now.items) result
+        ≡ folder_of (entries_of entries.entry.now) name.now }
 {
     for entry in entries {
         if is_same(entry.0.bytes(), name.as_bytes()) {
@@ -91,7 +93,8 @@ impl Shelf for MemShelf {
         ensures same { self.new.entries ≡ self.old.entries }
         ensures cause { HasShelfCause self.old.calls.faults self.new.calls.faults result }
         ensures failed { IsErrOf result ShelfFault.Failed ↔ FailsNext self.old.calls }
-        ensures absent { folder_of self.old.entries name.now ≡ None → ¬ (IsErrOf result ShelfFault.Memory) }
+        ensures absent { folder_of self.old.entries name.now ≡ None
+            → ¬ (IsErrOf result ShelfFault.Memory) }
         ensures after { self.new ≡ after_fetch self.old result }
     {
         if self.calls.begin() {

@@ -31,7 +31,8 @@ pub trait Sink {
 /// and not all. Where there are no bytes the sink is not called.
 pub fn write_whole<K: Sink>(out: &mut K, bytes: &[u8]) -> Result<(), Failed>
     ensures whole { OnOk result (K.taken out.new ≡ with_more (K.taken out.old) bytes.now) }
-    ensures part { OnErr result ((n : ℕ) × (n < length bytes.now) × (K.taken out.new ≡ with_more (K.taken out.old) (take n bytes.now))) }
+    ensures part { OnErr result ((n : ℕ) × (n < length bytes.now)
+        × (K.taken out.new ≡ with_more (K.taken out.old) (take n bytes.now))) }
     ensures cause { HasCause (K.count out.old) (K.count out.new) result }
     ensures nothing { length bytes.now ≡ 0 → out.new ≡ out.old }
 {

@@ -40,7 +40,8 @@ impl<W: Write + Drop> StdSink<W> {
 fn write_once<W: Write>(writer: &mut W, piece: &[u8]) -> Result<u64, Failed>
     ensures within { IfOk result (λ n. n ≤ length piece.now) }
     ensures some { IfOk result (λ n. 0 < length piece.now → 0 < n) }
-    ensures written { WriteAppends (W.contents writer.old) (W.contents writer.new) result piece.now }
+    ensures written { WriteAppends (W.contents writer.old) (W.contents writer.new)
+        result piece.now }
 {
     match writer.write(piece) {
         Ok(count) if 0 < count || piece.is_empty() => Ok(count as u64),
@@ -57,7 +58,8 @@ impl<W: Write + Drop> Sink for StdSink<W> {
         ensures within { IfOk result (λ n. n ≤ length piece.now) }
         ensures some { IfOk result (λ n. 0 < length piece.now → 0 < n) }
         ensures cause { HasCause self.old.faults self.new.faults result }
-        ensures written { WriteAppends (W.contents self.old.device) (W.contents self.new.device) result piece.now }
+        ensures written { WriteAppends (W.contents self.old.device) (W.contents self.new.device)
+            result piece.now }
     {
         let result = write_once(&mut self.writer, piece);
         if result.is_err() {
