@@ -11,6 +11,7 @@ use crate::fault::refuse;
 use crate::unit::{Name, Stated, Units};
 use indexmap::IndexSet;
 use std::alloc::Global;
+use tla_ast::Fault;
 
 /// Adds a name that is not among the known ones.
 fn declare<'a>(
