@@ -4,5 +4,3 @@ mod FlatLaws
 mod FaultLaws
 mod MachineLaws
 mod StackLemmas
-mod Pushed
-mod OutlineLaws
