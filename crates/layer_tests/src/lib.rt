@@ -4,6 +4,10 @@
 #![tactic(auto)]
 
 #[cfg(test)]
+mod brute_force;
+#[cfg(test)]
+mod chains;
+#[cfg(test)]
 mod dump;
 #[cfg(test)]
 mod expressions;
@@ -15,5 +19,9 @@ mod instances;
 mod nodes;
 #[cfg(test)]
 mod renaming;
+#[cfg(test)]
+mod syntax;
+#[cfg(test)]
+mod tokens;
 #[cfg(test)]
 mod trees;

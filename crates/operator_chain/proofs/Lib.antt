@@ -4,5 +4,3 @@ mod FlatLaws
 pub mod FaultLaws
 mod MachineLaws
 mod StackLemmas
-mod Pushed
-mod OutlineLaws

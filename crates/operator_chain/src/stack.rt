@@ -1,17 +1,17 @@
 //! Builds the tree of a chain with a stack of open operators.
 
-ghost use Rattle.std.specs.Prelude.{◌≡◌, true, [], ◌∷◌, List, Some, None, Err, IfOk, OnOk, if◌then◌else◌, ◌&&◌};
+ghost use Rattle.std.specs.Prelude.{◌≡◌, true, [], ◌∷◌, List, ◌≢◌, Some, None, IfOk, IfErr, OnOk, if◌then◌else◌, ◌&&◌};
 ghost use Rattle.operator_chain.specs.Tree.{Tree, node_of, hole, ended};
-ghost use Rattle.operator_chain.specs.Chain.{IsChain, tree_of, fault_of, or_else};
+ghost use Rattle.operator_chain.specs.Chain.{IsChain, tree_of, IsFaultOf, or_else};
 ghost use Rattle.operator_chain.specs.Listed.{AreListed};
 ghost use Rattle.operator_chain.specs.Machine.{Frame, State, popped, stacked, plug, operator_in, closes, is_same_part, may_stand, Keeps, Shows, moved, moved_all, start};
 
-use crate::chain::{ChainFault, Ending, Operator, Piece, Suffix};
+use crate::chain::{Ending, Operator, Piece, Suffix};
 use sqlite_items::Items;
 use std::alloc::{AllocError, Global};
 use std::collections::VecDeque;
 use std::mem;
-use tla_ast::{Def, Form, Group, Key, Node, Path, Place};
+use tla_ast::{Fault, Form, Kind, Node, Parts, Place};
 
 /// An operator whose last operand isn't complete, with its left operand.
 #[derive(Debug, Drop)]
@@ -66,23 +66,23 @@ pub fn plain(alloc: Global) -> Node
 {
     Node {
         form: Form::At,
-        parts: Items::new(alloc),
+        parts: Parts::new(alloc),
         place: Place { line: 1, column: 1 },
     }
 }
 
-fn one(alloc: Global, node: Node) -> Result<Items<Node>, AllocError>
+fn one(alloc: Global, node: Node) -> Result<Parts<Node>, AllocError>
     ensures { IfOk result (λ p. p ≡ node ∷ []) }
 {
-    let mut parts = Items::new(alloc);
+    let mut parts = Parts::new(alloc);
     parts.push(node)?;
     Ok(parts)
 }
 
-fn two(alloc: Global, left: Node, right: Node) -> Result<Items<Node>, AllocError>
+fn two(alloc: Global, left: Node, right: Node) -> Result<Parts<Node>, AllocError>
     ensures { IfOk result (λ p. p ≡ left ∷ right ∷ []) }
 {
-    let mut parts = Items::new(alloc);
+    let mut parts = Parts::new(alloc);
     parts.push(left)?;
     parts.push(right)?;
     Ok(parts)
@@ -286,99 +286,17 @@ fn run(alloc: Global, mut pieces: VecDeque<Piece>) -> Result<Stack, AllocError>
     Ok(stack)
 }
 
-/// Puts the arguments of keys behind the nodes.
-fn keep_keys(rest: &mut Items<Node>, mut keys: Items<Key>) {
-    while let Some(key) = keys.pop() {
-        if let Key::At(node) = key {
-            let _ = rest.push(node);
-        }
-    }
-}
-
-fn keep_paths(rest: &mut Items<Node>, mut paths: Items<Path>) {
-    while let Some(path) = paths.pop() {
-        keep_keys(rest, path.keys);
-    }
-}
-
-/// Puts the set of bound names behind the nodes.
-fn keep_group(rest: &mut Items<Node>, group: Group) {
-    let Group { names: _, domain } = group;
-    if let Some(set) = domain {
-        let _ = rest.push(set.into_inner());
-    }
-}
-
-fn keep_groups(rest: &mut Items<Node>, mut groups: Items<Group>) {
-    while let Some(group) = groups.pop() {
-        keep_group(rest, group);
-    }
-}
-
-/// Puts the right sides of definitions behind the nodes.
-fn keep_definitions(rest: &mut Items<Node>, mut definitions: Items<Def>) {
-    while let Some(definition) = definitions.pop() {
-        let _ = rest.push(definition.body.into_inner());
-    }
-}
-
-/// Puts what a form holds behind the nodes.
-fn keep_form(rest: &mut Items<Node>, form: Form) {
-    match form {
-        Form::Except(paths) => keep_paths(rest, paths),
-        Form::Quant { all: _, groups } => keep_groups(rest, groups),
-        Form::Choose(group) => keep_group(rest, group),
-        Form::Let(definitions) => keep_definitions(rest, definitions),
-        _ => {}
-    }
-}
-
-/// Drops a node with a loop over what it holds, where the derived drop is a recursion. Where memory is short it falls back to
-/// that.
-pub fn discard(node: Node) {
-    let Node {
-        form,
-        parts: mut rest,
-        place: _,
-    } = node;
-    keep_form(&mut rest, form);
-    for _ in 0..u64::MAX {
-        match rest.pop() {
-            None => return,
-            Some(
-                Node {
-                    form,
-                    parts,
-                    place: _,
-                },
-            ) => {
-                let _ = rest.append(parts);
-                keep_form(&mut rest, form);
-            }
-        }
-    }
-}
-
-/// Drops what was read of a chain.
-fn discard_all(mut parts: Items<Open>, last: Node) {
-    discard(last);
-    while let Some(part) = parts.pop() {
-        if let Open::Infix(left, _) = part {
-            discard(left);
-        }
-    }
-}
-
 /// The one right tree of a chain. The chain may break off where an operand must come: the fault, if any, is then that of
 /// what is there with a plain operand after it, and the node has a plain operand in that place.
 ///
-/// The time is linear in the chain, and the reading is a loop. The node is as deep as the operators nest: drop a deep one by
-/// `discard`.
-pub fn tree(alloc: Global, pieces: VecDeque<Piece>) -> Result<Node, ChainFault>
+/// There is no tree where a fault is answered that is not `Memory`: it is then Precedence at the first operator such that the
+/// chain up to it, with a plain operand after it unless it is postfix, has none. The time is linear in the chain, and the
+/// reading is a loop.
+pub fn tree(alloc: Global, pieces: VecDeque<Piece>) -> Result<Node, Fault>
     requires chain { IsChain true pieces.items }
     requires listed { AreListed pieces.items }
     ensures ok { IfOk result (λ n. (t : Tree) × (tree_of pieces.items ≡ Some t) × (n ≡ node_of t)) }
-    ensures wrong { (p : Place) → result ≡ Err (ChainFault.Precedence p) → (tree_of pieces.items ≡ None) × (fault_of pieces.items ≡ Some p) }
+    ensures wrong { IfErr result (λ e. e ≢ Fault.Memory → IsFaultOf pieces.items e) }
 {
     let Stack {
         mut parts,
@@ -388,10 +306,10 @@ pub fn tree(alloc: Global, pieces: VecDeque<Piece>) -> Result<Node, ChainFault>
         wrong,
     } = run(alloc, pieces)?;
     match told(is_alive, wrong) {
-        Some(place) => {
-            discard_all(parts, last);
-            Err(ChainFault::Precedence(place))
-        }
+        Some(place) => Err(Fault::At {
+            place,
+            kind: Kind::Precedence,
+        }),
         None => Ok(close_all(alloc, &mut parts, last)?),
     }
 }
