@@ -55,10 +55,30 @@ fn gives(alloc: Global, schema: u64, param: Expr, want: &Expr) -> Result<bool, M
 
 /// `c0 \in BOOLEAN <=> c0 = TRUE \/ c0 = FALSE`
 fn about_boolean(alloc: Global) -> Result<Expr, Memory> {
-    let left = Expr::binary(alloc, Head::In, constant(alloc, 0)?, Expr::leaf(alloc, Head::Boolean)?)?;
-    let first = Expr::binary(alloc, Head::Eq, constant(alloc, 0)?, Expr::leaf(alloc, Head::True)?)?;
-    let second = Expr::binary(alloc, Head::Eq, constant(alloc, 0)?, Expr::leaf(alloc, Head::False)?)?;
-    Expr::binary(alloc, Head::Iff, left, Expr::binary(alloc, Head::Or, first, second)?)
+    let left = Expr::binary(
+        alloc,
+        Head::In,
+        constant(alloc, 0)?,
+        Expr::leaf(alloc, Head::Boolean)?,
+    )?;
+    let first = Expr::binary(
+        alloc,
+        Head::Eq,
+        constant(alloc, 0)?,
+        Expr::leaf(alloc, Head::True)?,
+    )?;
+    let second = Expr::binary(
+        alloc,
+        Head::Eq,
+        constant(alloc, 0)?,
+        Expr::leaf(alloc, Head::False)?,
+    )?;
+    Expr::binary(
+        alloc,
+        Head::Iff,
+        left,
+        Expr::binary(alloc, Head::Or, first, second)?,
+    )
 }
 
 /// `(\E x : 1(x)) => 1(CHOOSE x : 1(x))`
@@ -94,7 +114,16 @@ fn what_is_chosen(rt: HostRuntime) -> Result<(), Fail> {
 fn literals_are_told_apart(rt: HostRuntime) -> Result<(), Fail> {
     let alloc = rt.alloc();
     let different = vec![in alloc; Expr::numeral(alloc, 0, 1)?, Expr::numeral(alloc, 0, 2)?]?;
-    let want = Expr::unary(alloc, Head::Not, Expr::binary(alloc, Head::Eq, Expr::numeral(alloc, 0, 1)?, Expr::numeral(alloc, 0, 2)?)?)?;
+    let want = Expr::unary(
+        alloc,
+        Head::Not,
+        Expr::binary(
+            alloc,
+            Head::Eq,
+            Expr::numeral(alloc, 0, 1)?,
+            Expr::numeral(alloc, 0, 2)?,
+        )?,
+    )?;
     assert!(rt; instance_of(alloc, 22, 0, &different)? == Some(want));
     let equal = vec![in alloc; Expr::numeral(alloc, 0, 1)?, Expr::numeral(alloc, 0, 1)?]?;
     assert!(rt; instance_of(alloc, 22, 0, &equal)?.is_none());

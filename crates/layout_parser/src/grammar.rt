@@ -15,7 +15,7 @@ use core_expr::Memory;
 use operator_chain::{Piece, tree};
 use std::alloc::Global;
 use std::collections::VecDeque;
-use tla_ast::{Fault, Kind, Node};
+use tla_ast::{Fault, Node};
 use token_reader::{Cursor, Setting, Stop};
 
 /// The rules, where so many nestings may begin.
