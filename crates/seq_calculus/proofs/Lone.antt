@@ -1,11 +1,11 @@
 -- Literals are known by their roots.
-use Rattle.std.specs.Prelude.{◌≡◌, ℕ, Bool, true, false, ◌&&◌, not, IsTrue, ◌↔◌, nat_eq, List, [], ◌∷◌, length}
+use Rattle.std.specs.Prelude.{◌≡◌, ℕ, Bool, true, false, not, IsTrue, ◌↔◌, nat_eq, List, [], ◌∷◌, length}
 use Rattle.std.proofs.Common.{refl, ap, sym, ◌∙◌, subst, arith}
 use Rattle.std.proofs.lemmas.Bool.Decides.{nat_tests}
 use Rattle.std.proofs.lemmas.Bool.{false≢true, and_parts}
 use Rattle.core_expr.specs.declared.head.Head.TheVariants.{Num, Str}
 use Rattle.core_expr.specs.declared.row.RowKind.{RowKind}
-use Rattle.core_expr.specs.declared.row.RowKind.TheVariants.{Bound, Symbol, Plain, Binding}
+use Rattle.core_expr.specs.declared.row.RowKind.TheVariants.{Plain}
 use Rattle.core_expr.specs.Tree.{Tree, Parts, size, num_, str_}
 use Rattle.core_expr.specs.Tree.Tree.{bound, app, node, bind}
 use Rattle.core_expr.specs.Tree.Parts.{end, part}

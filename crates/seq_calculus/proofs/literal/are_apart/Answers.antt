@@ -1,4 +1,4 @@
-use Rattle.std.proofs.Common.{◌≡◌, true, false, sym, ap, ◌∙◌, rules}
+use Rattle.std.proofs.Common.{◌≡◌, true, sym, ap, ◌∙◌, rules}
 use Rattle.core_expr.specs.Places.{kind_of}
 use Rattle.seq_calculus.specs.Literals.{is_literal}
 use Rattle.seq_calculus.proofs.Lone.{apart_tested, apart_roots, apart_other}
