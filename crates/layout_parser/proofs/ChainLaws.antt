@@ -79,16 +79,16 @@ IsGood waits Ended = Unit {0}
 IsGood waits (Broken None f) = Unit {0}
 IsGood waits (Broken (Some x) f) = IsChain waits (x ∷ []) × IsListed x
 
-same-operator : (p o : Operator) → Some p ≡ Some o → p ≡ o
-same-operator p o e = ap (from_some p) e
+pub same-some : {A : Type 0} (a b : A) → Some a ≡ Some b → a ≡ b
+same-some {A} a b e = ap from_some e
   where
-    from_some : Operator → Option Operator → Operator
-    from_some d (Some x) = x
-    from_some d None = d
+    from_some : Option A → A
+    from_some (Some x) = x
+    from_some None = a
 
 -- an operator that a token is has its row of the table
 by-row : (t : Token) (fix : Fix) (r : Option (ℕ × ℕ × Bool)) (o : Operator) → operator (spelling t.tok) fix ≡ r → operator_at t r ≡ Some o → operator o.sign fix ≡ Some (o.low, o.high, o.is_left)
-by-row t fix (Some row) o is e = subst (λ p. operator p.sign fix ≡ Some (p.low, p.high, p.is_left)) (same-operator _ o e) is
+by-row t fix (Some row) o is e = subst (λ p. operator p.sign fix ≡ Some (p.low, p.high, p.is_left)) (same-some _ o e) is
 by-row t fix None o is e = absurd (none-some _ e)
 
 pub operator-listed : (s : Setting) (fix : Fix) (ts : Tokens) (o : Operator) → operator_in s fix ts ≡ Some o → operator o.sign fix ≡ Some (o.low, o.high, o.is_left)
