@@ -1,5 +1,7 @@
 pub mod Place
 pub mod Fault
+pub mod Answers
 pub mod Word
 pub mod Listing
-pub mod Answers
+pub mod Tree
+pub mod formers

@@ -6,6 +6,7 @@
 
 mod fault;
 mod limit;
+mod parts;
 mod place;
 mod token;
 mod tree;
@@ -14,6 +15,7 @@ mod word;
 
 pub use fault::{Fault, Kind, LexFault, OutlineFault, ScopeFault, SynFault};
 pub use limit::{MOST_BYTES, MOST_MODULES, MOST_NESTINGS};
+pub use parts::Parts;
 pub use place::Place;
 pub use token::{Tok, Token, Tokens};
 pub use tree::{Decl, Def, Form, Group, Key, Node, Path};

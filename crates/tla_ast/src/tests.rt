@@ -1,47 +1,83 @@
 use super::*;
 use core_expr::Text;
-use sqlite_items::Items;
+use sqlite_items::{Boxed, Items};
 use std::alloc::{AllocError, Global};
 use std::cmp::Ordering;
 
-/// A node of so many levels under it.
-fn tower(alloc: Global, levels: u64) -> Result<Node, AllocError> {
-    let place = Place { line: 1, column: 1 };
-    let mut node = Node {
+/// A leaf.
+fn leaf(alloc: Global) -> Node {
+    Node {
         form: Form::Tuple,
-        parts: Items::new(alloc),
-        place,
-    };
+        parts: Parts::new(alloc),
+        place: Place { line: 1, column: 1 },
+    }
+}
+
+/// How a tree goes down.
+#[derive(Clone, Copy)]
+enum Way {
+    /// By the one part of each node.
+    Alone,
+    /// By the left one of two parts.
+    Left,
+    /// By the right one of two parts.
+    Right,
+}
+
+/// A node over one that has so many levels.
+fn above(alloc: Global, way: Way, node: Node) -> Result<Node, AllocError> {
+    let mut parts = Parts::new(alloc);
+    if let Way::Right = way {
+        parts.push(leaf(alloc))?;
+    }
+    parts.push(node)?;
+    if let Way::Left = way {
+        parts.push(leaf(alloc))?;
+    }
+    Ok(Node {
+        form: Form::Prime,
+        parts,
+        place: Place { line: 1, column: 1 },
+    })
+}
+
+/// A node with so many levels under it.
+fn tower(alloc: Global, way: Way, levels: u64) -> Result<Node, AllocError> {
+    let mut node = leaf(alloc);
     for _ in 0..levels {
-        let mut parts = Items::new(alloc);
-        parts.push(node)?;
-        node = Node {
-            form: Form::Prime,
-            parts,
-            place,
-        };
+        node = above(alloc, way, node)?;
     }
     Ok(node)
 }
 
-/// How many levels stand under a node, by its first parts.
-fn levels(node: &Node) -> u64 {
-    let mut at = node;
-    let mut count: u64 = 0;
-    while let Some(part) = at.parts.as_slice().first() {
-        at = part;
-        count = count.saturating_add(1);
+/// The levels of the deep trees that are dropped.
+const DEEP: u64 = 200_000;
+
+#[test]
+fn a_deep_tree_is_dropped(rt: HostRuntime) {
+    for way in [Way::Alone, Way::Left, Way::Right] {
+        assert!(rt; tower(rt.alloc(), way, DEEP).is_ok());
     }
-    count
 }
 
 #[test]
-fn a_deep_tree_is_built_walked_and_dropped(rt: HostRuntime) {
-    let found = match tower(rt.alloc(), 2000) {
-        Ok(node) => levels(&node),
-        Err(_) => 0,
+fn a_deep_tree_in_a_form_is_dropped(rt: HostRuntime) {
+    let set = tower(rt.alloc(), Way::Right, DEEP).expect(&rt, "memory");
+    let domain = Some(Boxed::new(rt.alloc(), set).expect(&rt, "memory"));
+    let group = Group {
+        names: Items::new(rt.alloc()),
+        domain,
     };
-    assert_eq!(rt; found, 2000);
+    let mut parts = Parts::new(rt.alloc());
+    let body = tower(rt.alloc(), Way::Left, DEEP).expect(&rt, "memory");
+    assert!(rt; parts.push(body).is_ok());
+    let node = Node {
+        form: Form::Choose(group),
+        parts,
+        place: Place { line: 1, column: 1 },
+    };
+    let (form, parts, _) = node.taken_apart();
+    assert!(rt; matches!(form, Form::Choose(_)) && parts.len() == 1);
 }
 
 /// Whether a kind has this text and this number in the order.
