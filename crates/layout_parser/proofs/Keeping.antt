@@ -174,8 +174,10 @@ module _ (left : ℕ) (inner : ChainReader) (keeps : (n : ℕ) (s : Setting) (wa
   fair-kept strong s ts h o = let l = next-left ts h o in behind l (then-kept ((subscript-keeps s).at (next ts) l.ends) (λ v. action-keeps v))
     where
       action-keeps : (v : Node) → Keeping (λ us. if sees s m.OpenParen us then and_then (rule.parenthesized left inner s us) (λ a vs. Ok (rule.node (form.Fair strong) (v ∷ a ∷ []) (here ts), vs)) else Err (refusal s stop.Expression us))
-      action-keeps v = record { at = λ us k. if-kept {b = sees s m.OpenParen us} (λ e. then-kept (parenthesized-kept s us k (sees-opens s m.OpenParen us refl e)) (λ a. pure-keeps {a = rule.node (form.Fair strong) (v ∷ a ∷ []) (here ts)}))
-          (λ _. refused-kept may s stop.Expression us k) }
+      action-keeps v = record {
+        at = λ us k. if-kept {b = sees s m.OpenParen us} (λ e. then-kept (parenthesized-kept s us k (sees-opens s m.OpenParen us refl e)) (λ a. pure-keeps {a = rule.node (form.Fair strong) (v ∷ a ∷ []) (here ts)}))
+            (λ _. refused-kept may s stop.Expression us k);
+      }
 
   -- ---- braces
 
@@ -231,11 +233,13 @@ module _ (left : ℕ) (inner : ChainReader) (keeps : (n : ℕ) (s : Setting) (wa
 
   brace-from-keeps : (s : Setting) (place : Place) → Keeping (rule.brace_from left inner s place)
   unfolding rule.brace_from rule.tuple_brace sees_second
-  brace-from-keeps s place = record { at = λ ts h. if-kept {b = sees s m.CloseBrace ts} (λ e. next-kept s m.CloseBrace ts refl h e)
-      (λ _. if-kept {b = sees s m.Name ts && sees s m.Belongs (next ts)}
-      (λ e. member-brace-kept s place ts h (sees-opens s m.Name ts refl (and_parts _ _ e).0) (sees-opens s m.Belongs (next ts) refl (and_parts (sees s m.Name ts) _ e).1))
-      (λ _. if-kept {b = sees s m.OpenAngle ts} (λ _. tuple-by-kept s place ts (inner 1 s true ts) (keeps 1 s true ts h))
-      (λ _. then-kept ((part-keeps s).at ts h) (λ x. brace-end-keeps s place x)))) }
+  brace-from-keeps s place = record {
+    at = λ ts h. if-kept {b = sees s m.CloseBrace ts} (λ e. next-kept s m.CloseBrace ts refl h e)
+        (λ _. if-kept {b = sees s m.Name ts && sees s m.Belongs (next ts)}
+        (λ e. member-brace-kept s place ts h (sees-opens s m.Name ts refl (and_parts _ _ e).0) (sees-opens s m.Belongs (next ts) refl (and_parts (sees s m.Name ts) _ e).1))
+        (λ _. if-kept {b = sees s m.OpenAngle ts} (λ _. tuple-by-kept s place ts (inner 1 s true ts) (keeps 1 s true ts h))
+        (λ _. then-kept ((part-keeps s).at ts h) (λ x. brace-end-keeps s place x))));
+  }
 
   brace-kept : (s : Setting) (ts : Tokens) → Ends ts → Opens ts → Kept is_of_expressions ts (rule.brace left inner s ts)
   unfolding rule.brace
@@ -322,8 +326,10 @@ module _ (left : ℕ) (inner : ChainReader) (keeps : (n : ℕ) (s : Setting) (wa
 
   square-from-keeps : (outer : Around) (s : Setting) (place : Place) → Keeping (rule.square_from left inner outer s place)
   unfolding rule.square_from
-  square-from-keeps outer s place = record { at = λ ts h. if-kept {b = sees s m.Name ts} (λ e. square-name-kept outer s place ts h (sees-opens s m.Name ts refl e))
-      (λ _. then-kept ((part-keeps s).at ts h) (λ x. square-end-keeps outer s place x)) }
+  square-from-keeps outer s place = record {
+    at = λ ts h. if-kept {b = sees s m.Name ts} (λ e. square-name-kept outer s place ts h (sees-opens s m.Name ts refl e))
+        (λ _. then-kept ((part-keeps s).at ts h) (λ x. square-end-keeps outer s place x));
+  }
 
   square-kept : (s : Setting) (ts : Tokens) → Ends ts → Opens ts → Kept is_of_expressions ts (rule.square left inner s ts)
   unfolding rule.square
@@ -388,8 +394,10 @@ module _ (left : ℕ) (inner : ChainReader) (keeps : (n : ℕ) (s : Setting) (wa
 
   case-end-keeps : (s : Setting) (place : Place) (parts : List Node) → Keeping (rule.case_end left inner s place parts)
   unfolding rule.case_end
-  case-end-keeps s place parts = record { at = λ ts h. if-kept {b = sees s m.Always ts}
-      (λ e. on-seen s m.Always ts refl h e (then-keeps (other-keeps s) (λ x. pure-keeps {a = rule.node (form.Case true) (parts ++ x ∷ []) place}))) (λ _. left-kept (stays ts h)) }
+  case-end-keeps s place parts = record {
+    at = λ ts h. if-kept {b = sees s m.Always ts}
+        (λ e. on-seen s m.Always ts refl h e (then-keeps (other-keeps s) (λ x. pure-keeps {a = rule.node (form.Case true) (parts ++ x ∷ []) place}))) (λ _. left-kept (stays ts h));
+  }
 
   cases-kept : (s : Setting) (ts : Tokens) → Ends ts → Opens ts → Kept is_of_expressions ts (rule.cases left inner s ts)
   unfolding rule.cases
@@ -402,9 +410,11 @@ module _ (left : ℕ) (inner : ChainReader) (keeps : (n : ℕ) (s : Setting) (wa
 
   head-keeps : (s : Setting) → Keeping (rule.head left inner s)
   unfolding rule.head
-  head-keeps s = record { at = λ ts h. if-kept {b = sees s m.OpenParen ts}
-      (λ e. then-kept (parameters-kept s ts h (sees-opens s m.OpenParen ts refl e)) (λ ds. then-keeps (expect-keeps may s stop.Other m.Defines refl) (λ _. pure-keeps)))
-      (λ _. then-kept ((expect-keeps may s stop.Defined m.Defines refl).at ts h) (λ _. pure-keeps)) }
+  head-keeps s = record {
+    at = λ ts h. if-kept {b = sees s m.OpenParen ts}
+        (λ e. then-kept (parameters-kept s ts h (sees-opens s m.OpenParen ts refl e)) (λ ds. then-keeps (expect-keeps may s stop.Other m.Defines refl) (λ _. pure-keeps)))
+        (λ _. then-kept ((expect-keeps may s stop.Defined m.Defines refl).at ts h) (λ _. pure-keeps));
+  }
 
   definition-keeps : (s : Setting) → Keeping (rule.definition left inner s)
   unfolding rule.definition
@@ -429,9 +439,11 @@ module _ (left : ℕ) (inner : ChainReader) (keeps : (n : ℕ) (s : Setting) (wa
     where
       turns : (n : ℕ) (found : List Node) (ts : Tokens) → Ends ts → Opens ts → Kept is_of_expressions ts (gathered_from n (ask (sees_bullet s k)) (rule.bulleted left inner s) put_last found ts)
       turns zero found ts h o = record { is = fault-here may ts _ h refl }
-      turns (suc n) found ts h o = let l = next-left ts h o in behind l (then-kept ((part-keeps s).at (next ts) l.ends) (λ x. record { at = λ us q.
-          by-choice us (sees_bullet s k us) (gathered_from n (ask (sees_bullet s k)) (rule.bulleted left inner s) put_last (found ++ x ∷ [])) (λ vs. Ok (found ++ x ∷ [], vs))
-          (λ e. turns n (found ++ x ∷ []) us q (bullet-opens s k us kept e)) (λ _. left-kept (stays us q)) }))
+      turns (suc n) found ts h o = let l = next-left ts h o in behind l (then-kept ((part-keeps s).at (next ts) l.ends) (λ x. record {
+        at = λ us q.
+            by-choice us (sees_bullet s k us) (gathered_from n (ask (sees_bullet s k)) (rule.bulleted left inner s) put_last (found ++ x ∷ [])) (λ vs. Ok (found ++ x ∷ [], vs))
+            (λ e. turns n (found ++ x ∷ []) us q (bullet-opens s k us kept e)) (λ _. left-kept (stays us q));
+      }))
 
   junction-kept : (all : Bool) (k : Mark) → is_final k ≡ false → (s : Setting) (ts : Tokens) → Ends ts → Opens ts → Kept is_of_expressions ts (rule.junction left inner all k s ts)
   unfolding rule.junction

@@ -6,7 +6,7 @@ ghost use Rattle.tla_ast.specs.Answers.{Reads};
 ghost use Rattle.layout_parser.specs.Reading as spec;
 ghost use Rattle.layout_parser.specs.Nests.{Nests, Flats, ended};
 
-use crate::build::{both, group, one, whole};
+use crate::build::{group, one, one_part, whole};
 use crate::flat::Flat;
 use crate::grammar::Grammar;
 use core_expr::Memory;
@@ -118,7 +118,7 @@ impl<F: Fn(Global, &mut Cursor<'_>, usize, usize, Setting, bool) -> Result<Flat,
         let groups = self.groups_of(cursor, setting, names)?;
         cursor.expect(self.alloc, setting, Stop::Expression, Mark::Colon)?;
         let body = self.part(cursor, setting)?;
-        let parts = one(self.alloc, body)?;
+        let parts = one_part(self.alloc, body)?;
         Ok(whole(Form::Quant { all, groups }, parts, place))
     }
 
@@ -147,7 +147,7 @@ impl<F: Fn(Global, &mut Cursor<'_>, usize, usize, Setting, bool) -> Result<Flat,
         let bound = cursor.declared(self.alloc, setting, Stop::Bound)?;
         let set = self.domain(cursor, setting)?;
         let body = self.part(cursor, setting)?;
-        let parts = one(self.alloc, body)?;
+        let parts = one_part(self.alloc, body)?;
         let group = group(self.alloc, one(self.alloc, bound)?, set)?;
         Ok(whole(Form::Choose(group), parts, place))
     }

@@ -9,7 +9,7 @@ ghost use Rattle.token_reader.specs.Input.{and_then};
 ghost use Rattle.layout_parser.specs.Reading as spec;
 ghost use Rattle.layout_parser.specs.Nests.{Nests, Flats, ended};
 
-use crate::build::{binary, leaf, one, unary, whole};
+use crate::build::{binary, leaf, one_part, unary, whole};
 use crate::flat::Flat;
 use crate::grammar::{Grammar, finished};
 use crate::member::{Bound, element, ends_at, put_before};
@@ -94,7 +94,7 @@ impl<F: Fn(Global, &mut Cursor<'_>, usize, usize, Setting, bool) -> Result<Flat,
         requires { Nests self.now.left (F.pre self.now.read) (F.post self.now.read) }
         ensures { Reads (spec.elements self.now.left (spec.nested self.now.left) setting place element cursor.old) result cursor.new }
     {
-        let first = one(self.alloc, element)?;
+        let first = one_part(self.alloc, element)?;
         let parts = self.expressions(cursor, setting, first)?;
         cursor.expect(self.alloc, setting, Stop::Expression, Mark::CloseBrace)?;
         Ok(whole(Form::Enum, parts, place))

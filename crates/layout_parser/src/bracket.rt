@@ -10,9 +10,8 @@ use crate::build::{binary, both, leaf, whole};
 use crate::flat::Flat;
 use crate::grammar::Grammar;
 use core_expr::{Memory, Text};
-use sqlite_items::Items;
 use std::alloc::Global;
-use tla_ast::{Fault, Form, Node, Place};
+use tla_ast::{Fault, Form, Node, Parts, Place};
 use token_reader::{Around, Cursor, Mark, Setting, Stop};
 
 impl<F: Fn(Global, &mut Cursor<'_>, usize, usize, Setting, bool) -> Result<Flat, Memory>> Grammar<
@@ -24,8 +23,8 @@ impl<F: Fn(Global, &mut Cursor<'_>, usize, usize, Setting, bool) -> Result<Flat,
         &self,
         cursor: &mut Cursor<'_>,
         setting: Setting,
-        mut found: Items<Node>,
-    ) -> Result<Items<Node>, Fault>
+        mut found: Parts<Node>,
+    ) -> Result<Parts<Node>, Fault>
         requires { Nests self.now.left (F.pre self.now.read) (F.post self.now.read) }
         ensures { Reads (spec.expressions self.now.left (spec.nested self.now.left) setting found cursor.old) result cursor.new }
     {
@@ -40,13 +39,13 @@ impl<F: Fn(Global, &mut Cursor<'_>, usize, usize, Setting, bool) -> Result<Flat,
 
     /// The arguments of a name.
     #[tactic(auto, unfolding(crate::specs::Reading::arguments))]
-    fn arguments(&self, cursor: &mut Cursor<'_>, setting: Setting) -> Result<Items<Node>, Fault>
+    fn arguments(&self, cursor: &mut Cursor<'_>, setting: Setting) -> Result<Parts<Node>, Fault>
         requires { Nests self.now.left (F.pre self.now.read) (F.post self.now.read) }
         ensures { Reads (spec.arguments self.now.left (spec.nested self.now.left) setting cursor.old) result cursor.new }
     {
         let inside = setting.within(Around::Other);
         cursor.opening(self.left)?;
-        let found = self.expressions(cursor, inside, Items::new(self.alloc))?;
+        let found = self.expressions(cursor, inside, Parts::new(self.alloc))?;
         cursor.expect(self.alloc, inside, Stop::Expression, Mark::CloseParen)?;
         Ok(found)
     }
@@ -90,7 +89,7 @@ impl<F: Fn(Global, &mut Cursor<'_>, usize, usize, Setting, bool) -> Result<Flat,
         if cursor.eat(inside, Mark::CloseAngle) {
             return Ok(leaf(self.alloc, Form::Tuple, place));
         }
-        let parts = self.expressions(cursor, inside, Items::new(self.alloc))?;
+        let parts = self.expressions(cursor, inside, Parts::new(self.alloc))?;
         cursor.expect(self.alloc, inside, Stop::Expression, Mark::CloseAngle)?;
         Ok(whole(Form::Tuple, parts, place))
     }
@@ -122,7 +121,7 @@ impl<F: Fn(Global, &mut Cursor<'_>, usize, usize, Setting, bool) -> Result<Flat,
         cursor: &mut Cursor<'_>,
         setting: Setting,
         place: Place,
-        mut parts: Items<Node>,
+        mut parts: Parts<Node>,
     ) -> Result<Node, Fault>
         requires { Nests self.now.left (F.pre self.now.read) (F.post self.now.read) }
         ensures { Reads (spec.angle_end self.now.left (spec.nested self.now.left) setting place parts cursor.old) result cursor.new }
@@ -150,7 +149,7 @@ impl<F: Fn(Global, &mut Cursor<'_>, usize, usize, Setting, bool) -> Result<Flat,
         if cursor.eat(inside, Mark::CloseAngle) {
             return Ok(leaf(self.alloc, Form::Tuple, place));
         }
-        let parts = self.expressions(cursor, inside, Items::new(self.alloc))?;
+        let parts = self.expressions(cursor, inside, Parts::new(self.alloc))?;
         self.angle_end(cursor, setting, place, parts)
     }
 

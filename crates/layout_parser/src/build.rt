@@ -5,7 +5,7 @@ ghost use Rattle.layout_parser.specs.Reading as spec;
 
 use sqlite_items::{Boxed, Items};
 use std::alloc::{AllocError, Global};
-use tla_ast::{Decl, Form, Group, Node, Place};
+use tla_ast::{Decl, Form, Group, Node, Parts, Place};
 
 pub fn both(a: bool, b: bool) -> bool
     ensures { result ≡ (a && b) }
@@ -20,7 +20,7 @@ pub fn either(a: bool, b: bool) -> bool
 }
 
 /// A node with these parts.
-pub fn whole(form: Form, parts: Items<Node>, place: Place) -> Node
+pub fn whole(form: Form, parts: Parts<Node>, place: Place) -> Node
     ensures { result ≡ spec.node form parts place }
 {
     Node { form, parts, place }
@@ -30,7 +30,7 @@ pub fn whole(form: Form, parts: Items<Node>, place: Place) -> Node
 pub fn leaf(alloc: Global, form: Form, place: Place) -> Node
     ensures { result ≡ spec.node form [] place }
 {
-    whole(form, Items::new(alloc), place)
+    whole(form, Parts::new(alloc), place)
 }
 
 /// One item.
@@ -42,11 +42,20 @@ pub fn one<T: Drop>(alloc: Global, item: T) -> Result<Items<T>, AllocError>
     Ok(all)
 }
 
+/// One part.
+pub fn one_part(alloc: Global, part: Node) -> Result<Parts<Node>, AllocError>
+    ensures { IfOk result (λ all. all ≡ part ∷ []) }
+{
+    let mut all = Parts::new(alloc);
+    all.push(part)?;
+    Ok(all)
+}
+
 /// A node with one part.
 pub fn unary(alloc: Global, form: Form, part: Node, place: Place) -> Result<Node, AllocError>
     ensures { IfOk result (λ n. n ≡ spec.node form (part ∷ []) place) }
 {
-    let parts = one(alloc, part)?;
+    let parts = one_part(alloc, part)?;
     Ok(whole(form, parts, place))
 }
 
@@ -60,7 +69,7 @@ pub fn binary(
 ) -> Result<Node, AllocError>
     ensures { IfOk result (λ n. n ≡ spec.node form (left ∷ right ∷ []) place) }
 {
-    let mut parts = one(alloc, left)?;
+    let mut parts = one_part(alloc, left)?;
     parts.push(right)?;
     Ok(whole(form, parts, place))
 }
@@ -76,7 +85,7 @@ pub fn ternary(
 ) -> Result<Node, AllocError>
     ensures { IfOk result (λ n. n ≡ spec.node form (first ∷ second ∷ third ∷ []) place) }
 {
-    let mut parts = one(alloc, first)?;
+    let mut parts = one_part(alloc, first)?;
     parts.push(second)?;
     parts.push(third)?;
     Ok(whole(form, parts, place))

@@ -6,7 +6,7 @@ ghost use Rattle.tla_ast.specs.Answers.{Reads};
 ghost use Rattle.layout_parser.specs.Reading as spec;
 ghost use Rattle.layout_parser.specs.Nests.{Nests, Flats, ended};
 
-use crate::build::{either, one, whole};
+use crate::build::{either, one_part, whole};
 use crate::flat::Flat;
 use crate::grammar::Grammar;
 use core_expr::Memory;
@@ -14,21 +14,21 @@ use operator_chain::{Ending, Piece};
 use sqlite_items::Items;
 use std::alloc::{AllocError, Global};
 use std::collections::VecDeque;
-use tla_ast::{Fault, Form, Key, Node, Path, Place};
+use tla_ast::{Fault, Form, Key, Node, Parts, Path, Place};
 use token_reader::{Cursor, Mark, Setting, Stop};
 
 /// The paths of updates, and the function with the new values.
 #[derive(Drop)]
 pub struct Updates {
     pub paths: Items<Path>,
-    pub parts: Items<Node>,
+    pub parts: Parts<Node>,
 }
 
 impl Updates {
     fn new(alloc: Global, function: Node) -> Result<Updates, AllocError>
         ensures { IfOk result (λ u. u ≡ spec.no_updates function) }
     {
-        let parts = one(alloc, function)?;
+        let parts = one_part(alloc, function)?;
         Ok(Updates {
             paths: Items::new(alloc),
             parts,

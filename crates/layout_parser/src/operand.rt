@@ -10,9 +10,8 @@ use crate::build::{both, leaf, whole};
 use crate::flat::Flat;
 use crate::grammar::Grammar;
 use core_expr::{Memory, Text};
-use sqlite_items::Items;
 use std::alloc::Global;
-use tla_ast::{Fault, Form, Node};
+use tla_ast::{Fault, Form, Node, Parts};
 use token_reader::{Cursor, Mark, Setting, Stop, same_mark};
 
 /// A word that is an operand by itself.
@@ -65,11 +64,11 @@ impl<F: Fn(Global, &mut Cursor<'_>, usize, usize, Setting, bool) -> Result<Flat,
         cursor: &mut Cursor<'_>,
         setting: Setting,
         mark: Mark,
-    ) -> Result<Items<Node>, Fault>
+    ) -> Result<Parts<Node>, Fault>
         requires { Nests self.now.left (F.pre self.now.read) (F.post self.now.read) }
         ensures { Reads (spec.items self.now.left (spec.nested self.now.left) setting mark cursor.old) result cursor.new }
     {
-        let mut found = Items::new(self.alloc);
+        let mut found = Parts::new(self.alloc);
         for _turn in 0..cursor.left() {
             found.push(self.bulleted(cursor, setting)?)?;
             if !sees_bullet(cursor, setting, mark) {

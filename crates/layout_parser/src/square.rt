@@ -16,14 +16,14 @@ use crate::member::{Bound, element, ends_at};
 use core_expr::{Memory, Text};
 use sqlite_items::Items;
 use std::alloc::Global;
-use tla_ast::{Decl, Fault, Form, Node, Place};
+use tla_ast::{Decl, Fault, Form, Node, Parts, Place};
 use token_reader::{Around, Cursor, Mark, Setting, Stop};
 
 /// Fields of a record with what they hold: the names, and per field a node of its name and the expression.
 #[derive(Drop)]
 pub struct Fields {
     pub names: Items<Text>,
-    pub parts: Items<Node>,
+    pub parts: Parts<Node>,
 }
 
 impl Fields {
@@ -32,7 +32,7 @@ impl Fields {
     {
         Fields {
             names: Items::new(alloc),
-            parts: Items::new(alloc),
+            parts: Parts::new(alloc),
         }
     }
 

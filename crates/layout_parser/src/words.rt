@@ -6,13 +6,13 @@ ghost use Rattle.tla_ast.specs.Answers.{Reads};
 ghost use Rattle.layout_parser.specs.Reading as spec;
 ghost use Rattle.layout_parser.specs.Nests.{Nests, Flats, ended};
 
-use crate::build::{one, ternary, whole};
+use crate::build::{one_part, ternary, whole};
 use crate::flat::Flat;
 use crate::grammar::Grammar;
 use core_expr::Memory;
 use sqlite_items::{Boxed, Items};
 use std::alloc::Global;
-use tla_ast::{Decl, Def, Fault, Form, Node, Place};
+use tla_ast::{Decl, Def, Fault, Form, Node, Parts, Place};
 use token_reader::{Around, Cursor, Mark, Setting, Stop, names};
 
 /// Reads the `[]` before a further arm, which is not that of OTHER; answers whether one comes.
@@ -54,11 +54,11 @@ impl<F: Fn(Global, &mut Cursor<'_>, usize, usize, Setting, bool) -> Result<Flat,
 
     /// One or more arms with `[]` between, up to that of OTHER.
     #[tactic(auto, using(token_reader::proofs::Turns::turn), unfolding(token_reader::specs::Lists::gathered, token_reader::specs::Lists::gathered_from))]
-    fn arms(&self, cursor: &mut Cursor<'_>, setting: Setting) -> Result<Items<Node>, Fault>
+    fn arms(&self, cursor: &mut Cursor<'_>, setting: Setting) -> Result<Parts<Node>, Fault>
         requires { Nests self.now.left (F.pre self.now.read) (F.post self.now.read) }
         ensures { Reads (spec.arms self.now.left (spec.nested self.now.left) setting cursor.old) result cursor.new }
     {
-        let mut parts = Items::new(self.alloc);
+        let mut parts = Parts::new(self.alloc);
         for _turn in 0..cursor.left() {
             let (guard, value) = self.arm(cursor, setting)?;
             parts.push(guard)?;
@@ -88,7 +88,7 @@ impl<F: Fn(Global, &mut Cursor<'_>, usize, usize, Setting, bool) -> Result<Flat,
         cursor: &mut Cursor<'_>,
         setting: Setting,
         place: Place,
-        mut parts: Items<Node>,
+        mut parts: Parts<Node>,
     ) -> Result<Node, Fault>
         requires { Nests self.now.left (F.pre self.now.read) (F.post self.now.read) }
         ensures { Reads (spec.case_end self.now.left (spec.nested self.now.left) setting place parts cursor.old) result cursor.new }
@@ -187,7 +187,7 @@ impl<F: Fn(Global, &mut Cursor<'_>, usize, usize, Setting, bool) -> Result<Flat,
         let definitions = self.definitions(cursor, setting)?;
         cursor.expect(self.alloc, setting, Stop::Expression, Mark::In)?;
         let body = self.part(cursor, setting)?;
-        let parts = one(self.alloc, body)?;
+        let parts = one_part(self.alloc, body)?;
         Ok(whole(Form::Let(definitions), parts, place))
     }
 }

@@ -5,4 +5,3 @@ pub mod FaultLaws
 mod MachineLaws
 mod StackLemmas
 mod Pushed
-mod OutlineLaws

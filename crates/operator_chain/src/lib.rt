@@ -1,16 +1,14 @@
 //! Chains of operands and operators.
 //!
 //! To the layers above this crate promises the reading of a chain: it is the one right tree of the chain, and where there is
-//! none the place of the first operator up to which there is none. `has_tree` tells which it is, and leaves the chain as it is.
+//! none the place of the first operator up to which there is none.
 #![tactic(auto)]
 
 mod chain;
-mod outline;
 mod stack;
 
 pub use chain::{ChainFault, Ending, Operator, Piece, Suffix, first_fault, one_right_tree};
-pub use outline::has_tree;
-pub use stack::{discard, plain, tree};
+pub use stack::{plain, tree};
 
 #[cfg(test)]
 mod brute_force;

@@ -11,7 +11,7 @@ use sqlite_items::Items;
 use std::alloc::{AllocError, Global};
 use std::collections::VecDeque;
 use std::mem;
-use tla_ast::{Def, Form, Group, Key, Node, Path, Place};
+use tla_ast::{Form, Node, Parts, Place};
 
 /// An operator whose last operand isn't complete, with its left operand.
 #[derive(Debug, Drop)]
@@ -66,23 +66,23 @@ pub fn plain(alloc: Global) -> Node
 {
     Node {
         form: Form::At,
-        parts: Items::new(alloc),
+        parts: Parts::new(alloc),
         place: Place { line: 1, column: 1 },
     }
 }
 
-fn one(alloc: Global, node: Node) -> Result<Items<Node>, AllocError>
+fn one(alloc: Global, node: Node) -> Result<Parts<Node>, AllocError>
     ensures { IfOk result (λ p. p ≡ node ∷ []) }
 {
-    let mut parts = Items::new(alloc);
+    let mut parts = Parts::new(alloc);
     parts.push(node)?;
     Ok(parts)
 }
 
-fn two(alloc: Global, left: Node, right: Node) -> Result<Items<Node>, AllocError>
+fn two(alloc: Global, left: Node, right: Node) -> Result<Parts<Node>, AllocError>
     ensures { IfOk result (λ p. p ≡ left ∷ right ∷ []) }
 {
-    let mut parts = Items::new(alloc);
+    let mut parts = Parts::new(alloc);
     parts.push(left)?;
     parts.push(right)?;
     Ok(parts)
@@ -286,94 +286,10 @@ fn run(alloc: Global, mut pieces: VecDeque<Piece>) -> Result<Stack, AllocError>
     Ok(stack)
 }
 
-/// Puts the arguments of keys behind the nodes.
-fn keep_keys(rest: &mut Items<Node>, mut keys: Items<Key>) {
-    while let Some(key) = keys.pop() {
-        if let Key::At(node) = key {
-            let _ = rest.push(node);
-        }
-    }
-}
-
-fn keep_paths(rest: &mut Items<Node>, mut paths: Items<Path>) {
-    while let Some(path) = paths.pop() {
-        keep_keys(rest, path.keys);
-    }
-}
-
-/// Puts the set of bound names behind the nodes.
-fn keep_group(rest: &mut Items<Node>, group: Group) {
-    let Group { names: _, domain } = group;
-    if let Some(set) = domain {
-        let _ = rest.push(set.into_inner());
-    }
-}
-
-fn keep_groups(rest: &mut Items<Node>, mut groups: Items<Group>) {
-    while let Some(group) = groups.pop() {
-        keep_group(rest, group);
-    }
-}
-
-/// Puts the right sides of definitions behind the nodes.
-fn keep_definitions(rest: &mut Items<Node>, mut definitions: Items<Def>) {
-    while let Some(definition) = definitions.pop() {
-        let _ = rest.push(definition.body.into_inner());
-    }
-}
-
-/// Puts what a form holds behind the nodes.
-fn keep_form(rest: &mut Items<Node>, form: Form) {
-    match form {
-        Form::Except(paths) => keep_paths(rest, paths),
-        Form::Quant { all: _, groups } => keep_groups(rest, groups),
-        Form::Choose(group) => keep_group(rest, group),
-        Form::Let(definitions) => keep_definitions(rest, definitions),
-        _ => {}
-    }
-}
-
-/// Drops a node with a loop over what it holds, where the derived drop is a recursion. Where memory is short it falls back to
-/// that.
-pub fn discard(node: Node) {
-    let Node {
-        form,
-        parts: mut rest,
-        place: _,
-    } = node;
-    keep_form(&mut rest, form);
-    for _ in 0..u64::MAX {
-        match rest.pop() {
-            None => return,
-            Some(
-                Node {
-                    form,
-                    parts,
-                    place: _,
-                },
-            ) => {
-                let _ = rest.append(parts);
-                keep_form(&mut rest, form);
-            }
-        }
-    }
-}
-
-/// Drops what was read of a chain.
-fn discard_all(mut parts: Items<Open>, last: Node) {
-    discard(last);
-    while let Some(part) = parts.pop() {
-        if let Open::Infix(left, _) = part {
-            discard(left);
-        }
-    }
-}
-
 /// The one right tree of a chain. The chain may break off where an operand must come: the fault, if any, is then that of
 /// what is there with a plain operand after it, and the node has a plain operand in that place.
 ///
-/// The time is linear in the chain, and the reading is a loop. The node is as deep as the operators nest: drop a deep one by
-/// `discard`.
+/// The time is linear in the chain, and the reading is a loop. The node is as deep as the operators nest.
 pub fn tree(alloc: Global, pieces: VecDeque<Piece>) -> Result<Node, ChainFault>
     requires chain { IsChain true pieces.items }
     requires listed { AreListed pieces.items }
@@ -388,10 +304,7 @@ pub fn tree(alloc: Global, pieces: VecDeque<Piece>) -> Result<Node, ChainFault>
         wrong,
     } = run(alloc, pieces)?;
     match told(is_alive, wrong) {
-        Some(place) => {
-            discard_all(parts, last);
-            Err(ChainFault::Precedence(place))
-        }
+        Some(place) => Err(ChainFault::Precedence(place)),
         None => Ok(close_all(alloc, &mut parts, last)?),
     }
 }
