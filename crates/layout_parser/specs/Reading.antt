@@ -698,6 +698,10 @@ unfoldable pub nested : ℕ → ChainReader
 nested zero n s waits ts = ([], Err (too_deep s ts))
 nested (suc left) n s waits ts = chain_from left (nested left) n s waits ts
 
+-- a rule, where so many nestings may still begin
+abbrev pub rule : {A : Type 0} → ℕ → (ℕ → ChainReader → A) → A
+rule left of = of left (nested left)
+
 -- how many nestings may still begin where so many stand round
 abbrev pub nestings_left : ℕ → ℕ
 nestings_left depth = suc (MOST_NESTINGS - depth)

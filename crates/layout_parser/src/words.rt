@@ -4,6 +4,7 @@ ghost use Rattle.std.specs.Prelude.{◌≡◌};
 ghost use Rattle.token_reader.specs.Input as input;
 ghost use Rattle.tla_ast.specs.Answers.{Reads};
 ghost use Rattle.layout_parser.specs.Reading as spec;
+ghost use Rattle.layout_parser.specs.Reading.{rule};
 ghost use Rattle.layout_parser.specs.Nests.{Nests, Flats, ended};
 
 use crate::build::{one_part, ternary, whole};
@@ -29,7 +30,7 @@ impl<F: Fn(Global, &mut Cursor<'_>, usize, usize, Setting, bool) -> Result<Flat,
     #[tactic(auto, unfolding(crate::specs::Reading::conditional))]
     pub fn conditional(&self, cursor: &mut Cursor<'_>, setting: Setting) -> Result<Node, Fault>
         requires { Nests self.now.left (F.pre self.now.read) (F.post self.now.read) }
-        ensures { Reads (spec.conditional self.now.left (spec.nested self.now.left) setting cursor.old) result cursor.new }
+        ensures { Reads (rule self.now.left spec.conditional setting cursor.old) result cursor.new }
     {
         let place = cursor.take();
         let test = self.part(cursor, setting)?;
@@ -44,7 +45,7 @@ impl<F: Fn(Global, &mut Cursor<'_>, usize, usize, Setting, bool) -> Result<Flat,
     #[tactic(auto, unfolding(crate::specs::Reading::arm))]
     fn arm(&self, cursor: &mut Cursor<'_>, setting: Setting) -> Result<(Node, Node), Fault>
         requires { Nests self.now.left (F.pre self.now.read) (F.post self.now.read) }
-        ensures { Reads (spec.arm self.now.left (spec.nested self.now.left) setting cursor.old) result cursor.new }
+        ensures { Reads (rule self.now.left spec.arm setting cursor.old) result cursor.new }
     {
         let guard = self.part(cursor, setting)?;
         cursor.expect(self.alloc, setting, Stop::Expression, Mark::Arrow)?;
@@ -56,7 +57,7 @@ impl<F: Fn(Global, &mut Cursor<'_>, usize, usize, Setting, bool) -> Result<Flat,
     #[tactic(auto, using(token_reader::proofs::Turns::turn), unfolding(token_reader::specs::Lists::gathered, token_reader::specs::Lists::gathered_from))]
     fn arms(&self, cursor: &mut Cursor<'_>, setting: Setting) -> Result<Parts<Node>, Fault>
         requires { Nests self.now.left (F.pre self.now.read) (F.post self.now.read) }
-        ensures { Reads (spec.arms self.now.left (spec.nested self.now.left) setting cursor.old) result cursor.new }
+        ensures { Reads (rule self.now.left spec.arms setting cursor.old) result cursor.new }
     {
         let mut parts = Parts::new(self.alloc);
         for _turn in 0..cursor.left() {
@@ -74,7 +75,7 @@ impl<F: Fn(Global, &mut Cursor<'_>, usize, usize, Setting, bool) -> Result<Flat,
     #[tactic(auto, unfolding(crate::specs::Reading::other_arm))]
     fn other_arm(&self, cursor: &mut Cursor<'_>, setting: Setting) -> Result<Node, Fault>
         requires { Nests self.now.left (F.pre self.now.read) (F.post self.now.read) }
-        ensures { Reads (spec.other_arm self.now.left (spec.nested self.now.left) setting cursor.old) result cursor.new }
+        ensures { Reads (rule self.now.left spec.other_arm setting cursor.old) result cursor.new }
     {
         cursor.expect(self.alloc, setting, Stop::Other, Mark::Other)?;
         cursor.expect(self.alloc, setting, Stop::Other, Mark::Arrow)?;
@@ -91,7 +92,8 @@ impl<F: Fn(Global, &mut Cursor<'_>, usize, usize, Setting, bool) -> Result<Flat,
         mut parts: Parts<Node>,
     ) -> Result<Node, Fault>
         requires { Nests self.now.left (F.pre self.now.read) (F.post self.now.read) }
-        ensures { Reads (spec.case_end self.now.left (spec.nested self.now.left) setting place parts cursor.old) result cursor.new }
+        ensures { Reads (rule self.now.left spec.case_end setting place parts cursor.old)
+            result cursor.new }
     {
         if !cursor.eat(setting, Mark::Always) {
             return Ok(whole(Form::Case { other: false }, parts, place));
@@ -104,7 +106,7 @@ impl<F: Fn(Global, &mut Cursor<'_>, usize, usize, Setting, bool) -> Result<Flat,
     #[tactic(auto, unfolding(crate::specs::Reading::cases))]
     pub fn cases(&self, cursor: &mut Cursor<'_>, setting: Setting) -> Result<Node, Fault>
         requires { Nests self.now.left (F.pre self.now.read) (F.post self.now.read) }
-        ensures { Reads (spec.cases self.now.left (spec.nested self.now.left) setting cursor.old) result cursor.new }
+        ensures { Reads (rule self.now.left spec.cases setting cursor.old) result cursor.new }
     {
         let place = cursor.take();
         let parts = self.arms(cursor, setting)?;
@@ -115,7 +117,7 @@ impl<F: Fn(Global, &mut Cursor<'_>, usize, usize, Setting, bool) -> Result<Flat,
     #[tactic(auto, unfolding(crate::specs::Reading::parameters))]
     fn parameters(&self, cursor: &mut Cursor<'_>, setting: Setting) -> Result<Items<Decl>, Fault>
         requires { Nests self.now.left (F.pre self.now.read) (F.post self.now.read) }
-        ensures { Reads (spec.parameters self.now.left (spec.nested self.now.left) setting cursor.old) result cursor.new }
+        ensures { Reads (rule self.now.left spec.parameters setting cursor.old) result cursor.new }
     {
         let inside = setting.within(Around::Other);
         cursor.opening(self.left)?;
@@ -128,7 +130,7 @@ impl<F: Fn(Global, &mut Cursor<'_>, usize, usize, Setting, bool) -> Result<Flat,
     #[tactic(auto, unfolding(crate::specs::Reading::head))]
     fn head(&self, cursor: &mut Cursor<'_>, setting: Setting) -> Result<Items<Decl>, Fault>
         requires { Nests self.now.left (F.pre self.now.read) (F.post self.now.read) }
-        ensures { Reads (spec.head self.now.left (spec.nested self.now.left) setting cursor.old) result cursor.new }
+        ensures { Reads (rule self.now.left spec.head setting cursor.old) result cursor.new }
     {
         if !cursor.sees(setting, Mark::OpenParen) {
             cursor.expect(self.alloc, setting, Stop::Defined, Mark::Defines)?;
@@ -143,7 +145,7 @@ impl<F: Fn(Global, &mut Cursor<'_>, usize, usize, Setting, bool) -> Result<Flat,
     #[tactic(auto, unfolding(crate::specs::Reading::definition))]
     fn definition(&self, cursor: &mut Cursor<'_>, setting: Setting) -> Result<Def, Fault>
         requires { Nests self.now.left (F.pre self.now.read) (F.post self.now.read) }
-        ensures { Reads (spec.definition self.now.left (spec.nested self.now.left) setting cursor.old) result cursor.new }
+        ensures { Reads (rule self.now.left spec.definition setting cursor.old) result cursor.new }
     {
         let Decl {
             name,
@@ -165,7 +167,7 @@ impl<F: Fn(Global, &mut Cursor<'_>, usize, usize, Setting, bool) -> Result<Flat,
     #[tactic(auto, using(token_reader::proofs::Turns::turn), unfolding(token_reader::specs::Lists::gathered, token_reader::specs::Lists::gathered_from))]
     fn definitions(&self, cursor: &mut Cursor<'_>, setting: Setting) -> Result<Items<Def>, Fault>
         requires { Nests self.now.left (F.pre self.now.read) (F.post self.now.read) }
-        ensures { Reads (spec.definitions self.now.left (spec.nested self.now.left) setting cursor.old) result cursor.new }
+        ensures { Reads (rule self.now.left spec.definitions setting cursor.old) result cursor.new }
     {
         let mut found = Items::new(self.alloc);
         for _turn in 0..cursor.left() {
@@ -181,7 +183,7 @@ impl<F: Fn(Global, &mut Cursor<'_>, usize, usize, Setting, bool) -> Result<Flat,
     #[tactic(auto, unfolding(crate::specs::Reading::local))]
     pub fn local(&self, cursor: &mut Cursor<'_>, setting: Setting) -> Result<Node, Fault>
         requires { Nests self.now.left (F.pre self.now.read) (F.post self.now.read) }
-        ensures { Reads (spec.local self.now.left (spec.nested self.now.left) setting cursor.old) result cursor.new }
+        ensures { Reads (rule self.now.left spec.local setting cursor.old) result cursor.new }
     {
         let place = cursor.take();
         let definitions = self.definitions(cursor, setting)?;
