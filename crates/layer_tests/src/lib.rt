@@ -15,3 +15,7 @@ mod instances;
 mod nodes;
 #[cfg(test)]
 mod renaming;
+#[cfg(test)]
+mod tokens;
+#[cfg(test)]
+mod trees;

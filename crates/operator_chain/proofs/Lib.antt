@@ -4,4 +4,3 @@ mod FlatLaws
 pub mod FaultLaws
 mod MachineLaws
 mod StackLemmas
-mod Pushed

@@ -6,6 +6,9 @@ use Rattle.operator_chain.specs.declared.chain.Piece.TheVariants as piece
 use Rattle.operator_chain.specs.Listed.{AreListed}
 use Rattle.operator_chain.specs.declared.chain.Suffix.{Suffix}
 use Rattle.tla_ast.specs.declared.place.Place.{Place}
+use Rattle.tla_ast.specs.declared.fault.Fault.{Fault}
+use Rattle.tla_ast.specs.declared.fault.Fault.TheVariants as fault
+use Rattle.tla_ast.specs.declared.fault.Kind.TheVariants.{Precedence}
 use Rattle.operator_chain.specs.Tree.{Tree, leaf, prefixed, suffixed, joined, hole, flat, before_infix, is_right}
 
 -- a plain operand
@@ -81,6 +84,10 @@ fault_of c = if is_right (shape c) then None else first_wrong c
 -- the right tree
 abbrev pub tree_of : List Piece → Option Tree
 tree_of c = if is_right (shape c) then Some (shape c) else None
+
+-- the fault is Precedence at this operator, and the chain has no right tree
+abbrev pub IsFaultOf : List Piece → Fault → Type 0
+IsFaultOf c e = (p : Place) × (e ≡ fault.At p Precedence) × (tree_of c ≡ None) × (fault_of c ≡ Some p)
 
 -- the front of a chain: operands stand where they must; the test says whether one must come next
 abbrev pub IsChain : Bool → List Piece → Type 0

@@ -6,7 +6,7 @@ ghost use Rattle.operator_chain.specs.Chain.{OneRightTree, FirstFault};
 ghost use Rattle.operator_chain.specs.Listed.{IsListed, sign_of};
 
 use core_expr::{Memory, Text};
-use std::alloc::{AllocError, Global};
+use std::alloc::Global;
 use std_names::{Fix, operator};
 use tla_ast::{Node, Place};
 
@@ -103,26 +103,6 @@ pub enum Piece {
     Prefix(Operator),
     Infix(Operator),
     Postfix(Suffix),
-}
-
-/// A chain without a right tree, or want of memory.
-#[derive(Debug, Drop)]
-pub enum ChainFault {
-    Memory,
-    /// There is no right tree; the place is that of the first operator such that the chain up to it, with a plain operand
-    /// after it unless it is postfix, has none.
-    Precedence(Place),
-}
-
-impl From<AllocError> for ChainFault {
-    ghost use Rattle.std.specs.Prelude.{◌≡◌};
-    ghost use Rattle.operator_chain.specs.declared.chain.ChainFault.TheVariants as fault;
-
-    ghost from_gives = { λ _ e. e ≡ fault.Memory };
-
-    fn from(_: AllocError) -> ChainFault {
-        ChainFault::Memory
-    }
 }
 
 /// A tree is right and has these pieces in this order exactly where it is the tree that the definition gives for the chain.

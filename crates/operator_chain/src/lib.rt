@@ -7,10 +7,5 @@
 mod chain;
 mod stack;
 
-pub use chain::{ChainFault, Ending, Operator, Piece, Suffix, first_fault, one_right_tree};
+pub use chain::{Ending, Operator, Piece, Suffix, first_fault, one_right_tree};
 pub use stack::{plain, tree};
-
-#[cfg(test)]
-mod brute_force;
-#[cfg(test)]
-mod tests;

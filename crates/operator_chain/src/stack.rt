@@ -1,17 +1,17 @@
 //! Builds the tree of a chain with a stack of open operators.
 
-ghost use Rattle.std.specs.Prelude.{◌≡◌, true, [], ◌∷◌, List, Some, None, Err, IfOk, OnOk, if◌then◌else◌, ◌&&◌};
+ghost use Rattle.std.specs.Prelude.{◌≡◌, true, [], ◌∷◌, List, ◌≢◌, Some, None, IfOk, IfErr, OnOk, if◌then◌else◌, ◌&&◌};
 ghost use Rattle.operator_chain.specs.Tree.{Tree, node_of, hole, ended};
-ghost use Rattle.operator_chain.specs.Chain.{IsChain, tree_of, fault_of, or_else};
+ghost use Rattle.operator_chain.specs.Chain.{IsChain, tree_of, IsFaultOf, or_else};
 ghost use Rattle.operator_chain.specs.Listed.{AreListed};
 ghost use Rattle.operator_chain.specs.Machine.{Frame, State, popped, stacked, plug, operator_in, closes, is_same_part, may_stand, Keeps, Shows, moved, moved_all, start};
 
-use crate::chain::{ChainFault, Ending, Operator, Piece, Suffix};
+use crate::chain::{Ending, Operator, Piece, Suffix};
 use sqlite_items::Items;
 use std::alloc::{AllocError, Global};
 use std::collections::VecDeque;
 use std::mem;
-use tla_ast::{Form, Node, Parts, Place};
+use tla_ast::{Fault, Form, Kind, Node, Parts, Place};
 
 /// An operator whose last operand isn't complete, with its left operand.
 #[derive(Debug, Drop)]
@@ -289,12 +289,14 @@ fn run(alloc: Global, mut pieces: VecDeque<Piece>) -> Result<Stack, AllocError>
 /// The one right tree of a chain. The chain may break off where an operand must come: the fault, if any, is then that of
 /// what is there with a plain operand after it, and the node has a plain operand in that place.
 ///
-/// The time is linear in the chain, and the reading is a loop. The node is as deep as the operators nest.
-pub fn tree(alloc: Global, pieces: VecDeque<Piece>) -> Result<Node, ChainFault>
+/// There is no tree where a fault is answered that is not `Memory`: it is then Precedence at the first operator such that the
+/// chain up to it, with a plain operand after it unless it is postfix, has none. The time is linear in the chain, and the
+/// reading is a loop.
+pub fn tree(alloc: Global, pieces: VecDeque<Piece>) -> Result<Node, Fault>
     requires chain { IsChain true pieces.items }
     requires listed { AreListed pieces.items }
     ensures ok { IfOk result (λ n. (t : Tree) × (tree_of pieces.items ≡ Some t) × (n ≡ node_of t)) }
-    ensures wrong { (p : Place) → result ≡ Err (ChainFault.Precedence p) → (tree_of pieces.items ≡ None) × (fault_of pieces.items ≡ Some p) }
+    ensures wrong { IfErr result (λ e. e ≢ Fault.Memory → IsFaultOf pieces.items e) }
 {
     let Stack {
         mut parts,
@@ -304,7 +306,10 @@ pub fn tree(alloc: Global, pieces: VecDeque<Piece>) -> Result<Node, ChainFault>
         wrong,
     } = run(alloc, pieces)?;
     match told(is_alive, wrong) {
-        Some(place) => Err(ChainFault::Precedence(place)),
+        Some(place) => Err(Fault::At {
+            place,
+            kind: Kind::Precedence,
+        }),
         None => Ok(close_all(alloc, &mut parts, last)?),
     }
 }

@@ -25,6 +25,3 @@ pub use unit::{
 pub use word::{
     begins_with_fairness, has_letter, is_among, is_identifier, is_reserved, is_word_byte,
 };
-
-#[cfg(test)]
-mod tests;

@@ -6,8 +6,10 @@ use Rattle.tla_ast.specs.declared.place.Place.{Place}
 use Rattle.tla_ast.specs.declared.token.Token.{Token}
 use Rattle.tla_ast.specs.declared.token.Tokens.{Tokens}
 use Rattle.tla_ast.specs.declared.fault.Kind.TheVariants.{TooLong}
-use Rattle.tla_ast.specs.declared.fault.LexFault.{LexFault}
-use Rattle.tla_ast.specs.declared.fault.LexFault.TheVariants as fault
+use Rattle.tla_ast.specs.declared.fault.Fault.{Fault}
+use Rattle.tla_ast.specs.declared.fault.Fault.TheVariants as fault
+use Rattle.tla_ast.specs.Answers.{Answers}
+use Rattle.tla_ast.specs.declared.limit.TheConstants.{MOST_BYTES}
 use Rattle.tla_ast.specs.Place.{before}
 use Rattle.tla_ast.specs.Listing.{is_last, RiseFrom, Rise, Ends, IsTokenList}
 use Rattle.tla_lexer.specs.declared.piece.Piece.{Piece}
@@ -18,7 +20,7 @@ use Rattle.tla_lexer.specs.Runs.{same_len}
 use Rattle.tla_lexer.specs.Place.{moved, after, first}
 use Rattle.tla_lexer.specs.Pieces.{piece_at}
 use Rattle.tla_lexer.specs.Headers.{find}
-use Rattle.tla_lexer.specs.Tokens.{Listed, with_front, token, tokens_from, headed, tokens_of, tokens_by, tokens, Gives}
+use Rattle.tla_lexer.specs.Tokens.{Listed, with_front, token, tokens_from, headed, tokens_of, tokens_by, tokens}
 use Rattle.tla_lexer.specs.Law.{Laid, gap, one, end, eof, TokensLie}
 use Rattle.tla_lexer.proofs.Tokens.{from-gap, from-token, from-end, from-fault}
 use Rattle.tla_lexer.proofs.Fits.{Fits, fits, end-spelled}
@@ -35,7 +37,7 @@ with_front-ok-type t ts f = with_front t f ≡ Ok ts → (us : List Token) × (f
 ok-is : {ts us : List Token} → ◌≡◌ {A = Listed} (Ok ts) (Ok us) → ts ≡ us
 ok-is e = cc
 
-err-ok : (e : LexFault) (ts : List Token) → ◌≡◌ {A = Listed} (Err e) (Ok ts) → ⊥
+err-ok : (e : Fault) (ts : List Token) → ◌≡◌ {A = Listed} (Err e) (Ok ts) → ⊥
 err-ok e ts h = subst Told (sym h) tt
 
 with_front-ok : (t : Token) (ts : List Token) (f : Listed) → with_front-ok-type t ts f
@@ -146,11 +148,11 @@ ends eof = refl
 refl-le : (n : ℕ) → n ≤ n
 refl-le n = omega arith
 
-abbrev Whole : Result Tokens LexFault → Type 0
+abbrev Whole : Result Tokens Fault → Type 0
 Whole (Ok ts) = Unit {0}
 Whole (Err e) = ⊥
 
-record-is : {us ts : Tokens} → ◌≡◌ {A = Result Tokens LexFault} (Ok us) (Ok ts) → ts ≡ us
+record-is : {us ts : Tokens} → ◌≡◌ {A = Result Tokens Fault} (Ok us) (Ok ts) → ts ≡ us
 record-is e = cc
 
 headed-ok : (name : Text) (header : Place) (f : Listed) (ts : Tokens) → headed name header f ≡ Ok ts → (ts.name ≡ name) × (ts.header ≡ header) × (f ≡ Ok ts.list)
@@ -159,7 +161,7 @@ headed-ok name header (Err x) ts e = absurd (subst Whole (sym e) tt)
 
 pub tokens-lie : TokensLie
 unfolding tokens tokens_of
-tokens-lie bytes ts e = go (nat_lt 1048576 (length bytes)) (find bytes) refl e
+tokens-lie bytes ts e = go (nat_lt MOST_BYTES (length bytes)) (find bytes) refl e
   where
     go : (b : Bool) (o : Option Found) → find bytes ≡ o → cond b (Err (fault.At first TooLong)) (tokens_by bytes o) ≡ Ok ts
         → (f : Found) × (find bytes ≡ Some f) × (ts.name ≡ f.header.name) × (ts.header ≡ after first (take f.at bytes))
@@ -172,6 +174,6 @@ tokens-lie bytes ts e = go (nat_lt 1048576 (length bytes)) (find bytes) refl e
         let l = laid _ _ _ _ (refl-le (length (drop (f.at + f.header.length) bytes))) split.2 in
         (f, h, split.0, split.1, subst (λ p. Laid (after p (take f.header.length (drop f.at bytes))) (drop (f.at + f.header.length) bytes) ts.list) (sym split.1) l, (rise l, ends l))
 
-pub list-of : (bytes : Text) (r : Result Tokens LexFault) → Gives r (tokens bytes) → IfOk r (λ ts. IsTokenList ts.list)
+pub list-of : (bytes : Text) (r : Result Tokens Fault) → Answers r (tokens bytes) → IfOk r (λ ts. IsTokenList ts.list)
 list-of bytes (Ok ts) g = (tokens-lie bytes ts g).5
 list-of bytes (Err e) g = tt

@@ -5,3 +5,4 @@ pub mod Headers
 pub mod Tokens
 pub mod Fits
 pub mod Laid
+pub mod Faults

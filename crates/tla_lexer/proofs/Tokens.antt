@@ -8,14 +8,16 @@ use Rattle.tla_ast.specs.declared.token.Tok.{Tok}
 use Rattle.tla_ast.specs.declared.token.Tok.TheVariants as tok
 use Rattle.tla_ast.specs.declared.fault.Kind.{Kind}
 use Rattle.tla_ast.specs.declared.fault.Kind.TheVariants.{TooLong}
-use Rattle.tla_ast.specs.declared.fault.LexFault.TheVariants as fault
+use Rattle.tla_ast.specs.declared.fault.Fault.TheVariants as fault
+use Rattle.tla_ast.specs.Answers.{Answers}
+use Rattle.tla_ast.specs.declared.limit.TheConstants.{MOST_BYTES}
 use Rattle.tla_lexer.specs.declared.piece.Piece.TheVariants as piece
 use Rattle.tla_lexer.specs.declared.header.Found.{Found}
 use Rattle.tla_lexer.specs.Signs.{Text}
 use Rattle.tla_lexer.specs.Place.{moved, after, first}
 use Rattle.tla_lexer.specs.Pieces.{piece_at}
 use Rattle.tla_lexer.specs.Headers.{find}
-use Rattle.tla_lexer.specs.Tokens.{Listed, with_front, token, tokens_from, behind, headed, tokens_of, tokens_by, tokens, Gives, Lists}
+use Rattle.tla_lexer.specs.Tokens.{Listed, with_front, token, tokens_from, behind, headed, tokens_of, tokens_by, tokens}
 
 pub from-drop : (left : ℕ) (p : Place) (z : Text) → left ≤ length z → tokens_from left p z ≡ tokens_from 0 (after p (take left z)) (drop left z)
 from-drop zero p z h = refl
@@ -99,24 +101,23 @@ part-len bytes at n = omega (arith, length-take {A = ℕ})
 
 -- ---- the whole
 
-pub Gives-headed : (name : Text) (header : Place) (r f : Listed) → Lists r f → Gives (headed name header r) (headed name header f)
-Gives-headed name header (Ok ts) f e = ap (headed name header) e
-Gives-headed name header (Err fault.Memory) f e = tt
-Gives-headed name header (Err (fault.At p k)) f e = ap (headed name header) e
+pub answers-headed : (name : Text) (header : Place) (r f : Listed) → Answers r f → Answers (headed name header r) (headed name header f)
+answers-headed name header (Ok ts) f e = ap (headed name header) e
+answers-headed name header (Err x) f e = λ h. ap (headed name header) (e h)
 
-pub too-long : (bytes : Text) → 1048576 < length bytes → tokens bytes ≡ Err (fault.At first TooLong)
+pub too-long : (bytes : Text) → MOST_BYTES < length bytes → tokens bytes ≡ Err (fault.At first TooLong)
 unfolding tokens
-too-long bytes h = cond-true _ _ _ (lt-ltb 1048576 (length bytes) h)
+too-long bytes h = cond-true _ _ _ (lt-ltb MOST_BYTES (length bytes) h)
 
-pub by-header : (bytes : Text) → length bytes ≤ 1048576 → tokens bytes ≡ tokens_by bytes (find bytes)
+pub by-header : (bytes : Text) → length bytes ≤ MOST_BYTES → tokens bytes ≡ tokens_by bytes (find bytes)
 unfolding tokens
-by-header bytes h = cond-false _ _ _ (le-ltb 1048576 (length bytes) h)
+by-header bytes h = cond-false _ _ _ (le-ltb MOST_BYTES (length bytes) h)
 
 pub tokens_of-is : (bytes : Text) (f : Found) (header begin : Place) (r : Listed) → header ≡ after first (take f.at bytes) → begin ≡ after header (take f.header.length (drop f.at bytes))
-    → Lists r (tokens_from 0 begin (drop (f.at + f.header.length) bytes)) → Gives (headed f.header.name header r) (tokens_of bytes f)
+    → Answers r (tokens_from 0 begin (drop (f.at + f.header.length) bytes)) → Answers (headed f.header.name header r) (tokens_of bytes f)
 unfolding tokens_of
 tokens_of-is bytes f header begin r eh eb l =
-    let P : Place → Place → Type 0 = λ h b. Gives (headed f.header.name header r) (headed f.header.name h (tokens_from 0 b (drop (f.at + f.header.length) bytes))) in
-    let there : P header begin = Gives-headed f.header.name header r _ l in
+    let P : Place → Place → Type 0 = λ h b. Answers (headed f.header.name header r) (headed f.header.name h (tokens_from 0 b (drop (f.at + f.header.length) bytes))) in
+    let there : P header begin = answers-headed f.header.name header r _ l in
     let moved_begin : P header (after header (take f.header.length (drop f.at bytes))) = subst (P header) eb there in
     subst (λ h. P h (after h (take f.header.length (drop f.at bytes)))) eh moved_begin

@@ -1,5 +1,5 @@
 -- Tokens in the words of the text: what each is spelled as, and what may stand between them.
-use Rattle.std.specs.Prelude.{◌≡◌, ℕ, suc, ◌<◌, ◌≤◌, ◌+◌, true, false, not, ◌==◌, ◌⊎◌, List, [], ◌∷◌, ◌++◌, length, take, drop, Some, Ok}
+use Rattle.std.specs.Prelude.{◌≡◌, ℕ, suc, ◌<◌, ◌≤◌, ◌+◌, true, false, not, ◌==◌, ◌⊎◌, List, [], ◌∷◌, ◌++◌, length, take, drop, Some, Ok, Err}
 use Rattle.std.specs.Char.{is_ascii_digit}
 use Rattle.std.specs.List.{list_all}
 use Rattle.tla_ast.specs.declared.place.Place.{Place}
@@ -7,6 +7,9 @@ use Rattle.tla_ast.specs.declared.token.Token.{Token}
 use Rattle.tla_ast.specs.declared.token.Tokens.{Tokens}
 use Rattle.tla_ast.specs.declared.token.Tok.{Tok}
 use Rattle.tla_ast.specs.declared.token.Tok.TheVariants as tok
+use Rattle.tla_ast.specs.declared.fault.Fault.{Fault}
+use Rattle.tla_ast.specs.declared.fault.Fault.TheVariants as fault
+use Rattle.tla_ast.specs.declared.fault.Kind.{Kind}
 use Rattle.tla_ast.specs.Listing.{is_last, IsTokenList}
 use Rattle.tla_lexer.specs.declared.header.Found.{Found}
 use Rattle.tla_lexer.specs.Signs.{Text, canonical}
@@ -66,3 +69,11 @@ abbrev pub TokensLie : Type 0
 TokensLie = (bytes : Text) (ts : Tokens) → tokens bytes ≡ Ok ts
     → (f : Found) × (find bytes ≡ Some f) × (ts.name ≡ f.header.name) × (ts.header ≡ after first (take f.at bytes))
     × Laid (after ts.header (take f.header.length (drop f.at bytes))) (drop (f.at + f.header.length) bytes) ts.list × IsTokenList ts.list
+
+-- The fault stands where a byte of the text or its end has its place, counted as for tokens.
+abbrev pub FaultIn : Place → Text → Fault → Type 0
+FaultIn p text e = (q : Place) × (k : Kind) × (front : Text) × (rest : Text) × (e ≡ fault.At q k) × (text ≡ front ++ rest) × (q ≡ after p front)
+
+-- A text that has no tokens has a fault in it.
+abbrev pub FaultsLie : Type 0
+FaultsLie = (bytes : Text) (e : Fault) → tokens bytes ≡ Err e → FaultIn first bytes e

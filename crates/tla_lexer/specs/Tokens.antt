@@ -6,8 +6,9 @@ use Rattle.tla_ast.specs.declared.token.Tokens.{Tokens}
 use Rattle.tla_ast.specs.declared.token.Tok.{Tok}
 use Rattle.tla_ast.specs.declared.token.Tok.TheVariants as tok
 use Rattle.tla_ast.specs.declared.fault.Kind.TheVariants.{TooLong, NoModule}
-use Rattle.tla_ast.specs.declared.fault.LexFault.{LexFault}
-use Rattle.tla_ast.specs.declared.fault.LexFault.TheVariants as fault
+use Rattle.tla_ast.specs.declared.fault.Fault.{Fault}
+use Rattle.tla_ast.specs.declared.fault.Fault.TheVariants as fault
+use Rattle.tla_ast.specs.declared.limit.TheConstants.{MOST_BYTES}
 use Rattle.tla_lexer.specs.declared.piece.Piece.{Piece}
 use Rattle.tla_lexer.specs.declared.piece.Piece.TheVariants as piece
 use Rattle.tla_lexer.specs.declared.header.Found.{Found}
@@ -17,7 +18,7 @@ use Rattle.tla_lexer.specs.Pieces.{piece_at}
 use Rattle.tla_lexer.specs.Headers.{find}
 
 abbrev pub Listed : Type 0
-Listed = Result (List Token) LexFault
+Listed = Result (List Token) Fault
 
 abbrev pub with_front : Token → Listed → Listed
 with_front t (Ok ts) = Ok (t ∷ ts)
@@ -39,35 +40,23 @@ tokens_from zero p (b ∷ z) = by_piece (piece_at (b ∷ z)) (λ n. tokens_from 
     by_piece piece.End more = Ok (token tok.End p ∷ [])
     by_piece (piece.Fault k n) more = Err (fault.At (after p (take n (b ∷ z))) k)
 
-abbrev pub headed : Text → Place → Listed → Result Tokens LexFault
+abbrev pub headed : Text → Place → Listed → Result Tokens Fault
 headed name header (Ok list) = Ok (record { name = name; header = header; list = list })
 headed name header (Err e) = Err e
 
 -- the tokens behind a header that is found
-unfoldable pub tokens_of : Text → Found → Result Tokens LexFault
+unfoldable pub tokens_of : Text → Found → Result Tokens Fault
 tokens_of bytes f =
     let header = after first (take f.at bytes) in
     headed f.header.name header (tokens_from 0 (after header (take f.header.length (drop f.at bytes))) (drop (f.at + f.header.length) bytes))
 
-abbrev pub tokens_by : Text → Option Found → Result Tokens LexFault
+abbrev pub tokens_by : Text → Option Found → Result Tokens Fault
 tokens_by bytes None = Err (fault.At first NoModule)
 tokens_by bytes (Some f) = tokens_of bytes f
 
 -- the tokens of a module, or its first fault
-unfoldable pub tokens : Text → Result Tokens LexFault
-tokens bytes = if nat_lt 1048576 (length bytes) then Err (fault.At first TooLong) else tokens_by bytes (find bytes)
-
--- what the code returned is this, unless memory ran out
-abbrev pub Gives : Result Tokens LexFault → Result Tokens LexFault → Type 0
-Gives (Ok ts) found = found ≡ Ok ts
-Gives (Err fault.Memory) found = Unit {0}
-Gives (Err (fault.At p k)) found = found ≡ Err (fault.At p k)
-
--- the same of the tokens behind a header
-abbrev pub Lists : Listed → Listed → Type 0
-Lists (Ok ts) found = found ≡ Ok ts
-Lists (Err fault.Memory) found = Unit {0}
-Lists (Err (fault.At p k)) found = found ≡ Err (fault.At p k)
+unfoldable pub tokens : Text → Result Tokens Fault
+tokens bytes = if nat_lt MOST_BYTES (length bytes) then Err (fault.At first TooLong) else tokens_by bytes (find bytes)
 
 -- these tokens before those that are found
 abbrev pub behind : List Token → Listed → Listed

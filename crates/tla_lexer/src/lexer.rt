@@ -1,7 +1,9 @@
 //! All tokens of a module.
 
 ghost use Rattle.std.specs.Prelude.{◌≡◌, ◌+◌, ◌*◌, ◌<◌, ◌≤◌, ◌^◌, length, drop, IfOk};
+ghost use Rattle.tla_ast.specs.Answers.{Answers};
 ghost use Rattle.tla_ast.specs.Listing.{IsTokenList};
+ghost use Rattle.tla_ast.specs.declared.limit.TheConstants.{MOST_BYTES};
 ghost use Rattle.tla_lexer.specs.Tokens as spec;
 
 use crate::header::{Found, find};
@@ -10,10 +12,7 @@ use crate::place::{FIRST, after};
 use core_expr::Text;
 use sqlite_items::Items;
 use std::alloc::Global;
-use tla_ast::{Kind, LexFault, Place, Tok, Token, Tokens};
-
-/// The number of bytes that a module may have.
-pub const LIMIT: usize = 1_048_576;
+use tla_ast::{Kind, LexFault, MOST_BYTES, Place, Tok, Token, Tokens};
 
 /// The tokens behind so many bytes, which end at this place.
 fn tokens_behind(
@@ -22,11 +21,11 @@ fn tokens_behind(
     start: usize,
     begin: Place,
 ) -> Result<Items<Token>, LexFault>
-    requires short { length bytes.now ≤ 1048576 }
+    requires short { length bytes.now ≤ MOST_BYTES }
     requires within { start ≤ length bytes.now }
     requires line { begin.line ≤ 1 + start }
     requires column { begin.column ≤ 1 + 8 * start }
-    ensures { spec.Lists result (spec.tokens_from 0 begin (drop start bytes.now)) }
+    ensures { Answers result (spec.tokens_from 0 begin (drop start bytes.now)) }
 {
     let mut list = Items::new(alloc);
     let mut place = begin;
@@ -69,10 +68,10 @@ fn tokens_behind(
 /// least place. `Memory` only where the allocator refuses memory. The places of the tokens rise by line and then column, and
 /// the last token and no other is `End` or `Eof`, as the readers ask.
 pub fn lex(alloc: Global, bytes: &[u8]) -> Result<Tokens, LexFault>
-    ensures gives { spec.Gives result (spec.tokens bytes.now) }
+    ensures gives { Answers result (spec.tokens bytes.now) }
     ensures list { IfOk result (λ ts. IsTokenList ts.list) }
 {
-    if LIMIT < bytes.len() {
+    if MOST_BYTES < bytes.len() {
         return Err(LexFault::At {
             place: FIRST,
             kind: Kind::TooLong,
@@ -89,9 +88,9 @@ pub fn lex(alloc: Global, bytes: &[u8]) -> Result<Tokens, LexFault>
 
 /// The tokens of a module whose header is found.
 fn tokens_of(alloc: Global, bytes: &[u8], found: Found) -> Result<Tokens, LexFault>
-    requires short { length bytes.now ≤ 1048576 }
+    requires short { length bytes.now ≤ MOST_BYTES }
     requires within { found.at + found.header.length ≤ length bytes.now }
-    ensures { spec.Gives result (spec.tokens_of bytes.now found) }
+    ensures { Answers result (spec.tokens_of bytes.now found) }
 {
     let Found { at, header } = found;
     let place = after(FIRST, &bytes[..at]);

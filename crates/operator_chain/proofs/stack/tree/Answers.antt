@@ -1,4 +1,4 @@
-use Rattle.std.proofs.Common.{◌≡◌, cond, Option, Some, None, sym, ◌∙◌, ap}
+use Rattle.std.proofs.Common.{◌≡◌, refl, cond, Option, Some, None, sym, ◌∙◌}
 use Rattle.tla_ast.specs.declared.place.Place.{Place}
 use Rattle.operator_chain.specs.Chain.{fault_of}
 use Rattle.operator_chain.specs.Machine.{moved_all, start, plug, Shows}
@@ -8,7 +8,7 @@ use Rattle.operator_chain.proofs.FaultLaws.{none_tree}
 use Rattle.operator_chain.proofs.stack.tree.Goals as goal
 
 pub returns-in-Some-clause-wrong : goal.returns-in-Some-clause-wrong
-returns-in-Some-clause-wrong c = λ p e. (
+returns-in-Some-clause-wrong c = λ _. (
     let pieces = c.args.pieces.items in
     let s = moved_all start pieces in
     let shows : Shows s c.in_ok-parts.field-0 = c.in_ok-parts.ensures in
@@ -16,12 +16,11 @@ returns-in-Some-clause-wrong c = λ p e. (
     let wrong = shows.wrong in
     let told : c.told.result ≡ fault_of pieces =
     c.told.ensures ∙ (λ i. cond {A = Option Place} (alive i) None (wrong i)) ∙ answer_told row_of pieces (listed-pieces pieces c.requires.listed) c.requires.chain in
-    let same : c.in-Some.place ≡ p = cc in
-    let is : fault_of pieces ≡ Some p = sym told ∙ c.in-Some.is ∙ ap Some same in
-    (none_tree pieces p is, is))
+    let is : fault_of pieces ≡ Some c.in-Some.place = sym told ∙ c.in-Some.is in
+    (c.in-Some.place, refl, none_tree pieces c.in-Some.place is, is))
 
-pub returns-in_ok-close_all-in-None-clause-ok : goal.returns-in_ok-close_all-in-None-clause-ok
-returns-in_ok-close_all-in-None-clause-ok c =
+pub returns-clause-ok : goal.returns-clause-ok
+returns-clause-ok c =
     let pieces = c.args.pieces.items in
     let s = moved_all start pieces in
     let shows : Shows s c.in_ok-parts.field-0 = c.in_ok-parts.ensures in

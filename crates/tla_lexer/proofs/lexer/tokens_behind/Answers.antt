@@ -35,4 +35,4 @@ pub returns-in-Fault : goal.returns-in-Fault
 returns-in-Fault c =
     let bytes = c.args.bytes.now in
     let at = c.loop-at.at in
-    c.loop-at.invariant.value ∙ ap (behind c.loop-at.list) (fault-at c.in-Fault.kind bytes at c.in-Fault.n c.loop-at.place c.after.result (sym c.in_ok-n.ensures.value ∙ c.in-Fault.is) c.loop-at-test.true c.after.ensures.value)
+    λ _. c.loop-at.invariant.value ∙ ap (behind c.loop-at.list) (fault-at c.in-Fault.kind bytes at c.in-Fault.n c.loop-at.place c.after.result (sym c.in_ok-n.ensures.value ∙ c.in-Fault.is) c.loop-at-test.true c.after.ensures.value)

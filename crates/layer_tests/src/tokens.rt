@@ -1,4 +1,6 @@
-use super::*;
+//! The tokens of a text, as tables: their kinds and places, headers, and the first fault.
+
+use tla_lexer::lex;
 use sqlite_items::Items;
 use std::alloc::Global;
 use tla_ast::{LexFault, Tok, Token};

@@ -1,8 +1,12 @@
-use super::*;
+//! The types of the text side: deep trees are dropped, kinds have their texts, places their order, words their tests.
+
 use core_expr::Text;
 use sqlite_items::{Boxed, Items};
 use std::alloc::{AllocError, Global};
 use std::cmp::Ordering;
+use tla_ast::{
+    Form, Group, Kind, Node, Parts, Place, is_identifier, is_reserved,
+};
 
 /// A leaf.
 fn leaf(alloc: Global) -> Node {
