@@ -1,5 +1,5 @@
 -- A chain piece by piece.
-use Rattle.std.proofs.Common.{◌≡◌, ℕ, suc, ◌-◌, ◌<◌, arith, if◌then◌else◌, Result, zero, Bool, true, false, List, [], ◌∷◌, ◌++◌, Option, Some, None, Ok, Err, refl, sym, subst, ap, ◌∙◌, append_assoc, append-nil}
+use Rattle.std.proofs.Common.{◌≡◌, ℕ, suc, ◌+◌, ◌-◌, ◌<◌, ◌≤◌, arith, if◌then◌else◌, Result, zero, Bool, true, false, List, [], ◌∷◌, ◌++◌, Option, Some, None, Ok, Err, refl, sym, subst, ap, ◌∙◌, append_assoc, append-nil}
 use Rattle.std.proofs.lemmas.Option.{none-some}
 use Rattle.std.specs.Result.{IfOk}
 use Rattle.std.specs.Prelude.{MatchOption}
@@ -25,12 +25,19 @@ use Rattle.layout_parser.specs.declared.flat.Step.TheVariants.{More, Ended, Brok
 use Rattle.token_reader.specs.declared.setting.Stop.TheVariants as stop
 use Rattle.layout_parser.specs.declared.flat.Flat.{Flat}
 use Rattle.core_expr.specs.declared.memory.Memory.{Memory}
+use Rattle.token_reader.proofs.Turns.{turn}
 use Rattle.layout_parser.specs.Nests.{Flats, ended}
 use Rattle.token_reader.specs.Marks.{Text, spelling}
 use Rattle.token_reader.specs.Input.{Tokens, Outcome, first, next, here, is_inside, mark, name, too_deep}
 use Rattle.layout_parser.specs.Reading.{Chain, ChainReader, Stepped, behind, left_over, joined, full, step, step_before, step_after, before_by, after_by, suffixed, by_operand, by_suffix, operand, operator_at, operator_in, index_at, field_at, prime_at, member_at, indexed, field, index, chain_from, nested}
 
 -- ---- the loop
+
+pub one_more : {X : Type 0} {x : X} (f : ℕ → X) (n at : ℕ) → at < n → x ≡ f (n - at) → x ≡ f (suc (n - (at + 1)))
+one_more f n at below e = e ∙ ap f (turn n at below)
+
+pub no_more : {X : Type 0} {x : X} (f : ℕ → X) (n at : ℕ) → n ≤ at → x ≡ f (n - at) → x ≡ f 0
+no_more f n at done e = let none : n - at ≡ 0 = omega arith in e ∙ ap f none
 
 behind-behind : (xs ys : List Piece) (c : Chain) → behind xs (behind ys c) ≡ behind (xs ++ ys) c
 behind-behind xs ys c = ap (λ l. (l, c.1)) (sym (append_assoc xs ys c.0))

@@ -379,6 +379,7 @@ module _ (left : ℕ) (inner : ChainReader) (keeps : (n : ℕ) (s : Setting) (wa
       (λ b. then-keeps (expect-keeps may s stop.Expression m.Else refl) (λ _. then-keeps (part-keeps s) (λ c. pure-keeps {a = rule.node form.If (a ∷ b ∷ c ∷ []) place}))))))
 
   further-keeps : (s : Setting) → Keeping (rule.further_arm s)
+  unfolding rule.further_arm
   further-keeps s = record { at = λ ts h. if-kept {b = sees_second s m.Other ts} (λ _. left-kept (stays ts h)) (λ _. (eat-keeps may s m.Always refl).at ts h) }
 
   arm-keeps : (s : Setting) → Keeping (rule.arm left inner s)

@@ -12,7 +12,7 @@ use Rattle.tla_ast.specs.declared.tree.Node.{Node}
 use Rattle.token_reader.specs.Marks.{words, signs, same_mark}
 use Rattle.token_reader.specs.Input.{mark, sees, sees_second, refusal, after, expect, name, declared, opening, begins, too_deep}
 use Rattle.token_reader.specs.Lists.{gathered, gathered_from}
-use Rattle.layout_parser.specs.Reading.{node, finished, operator_in, field, value, literal, part, arguments, named, parenthesized, tuple, subscript, angle_end, angle, fair, image, filter, elements, brace_end, member_brace, tuple_brace_after, tuple_brace, brace_from, brace, field_of, record_of, record_set, function_set, index, key_of, update, except, square_end, function, member_square, square_name, square_from, square, bound_set, bound, bounds, groups_of, quantifier, domain, choose, conditional, arm, other_arm, case_end, cases, parameters, head, definition, local, bulleted, junction, at, operand, indexed, step_before, step_after, chain_from, nested, reading}
+use Rattle.layout_parser.specs.Reading.{node, finished, operator_in, field, value, literal, part, arguments, named, parenthesized, tuple, subscript, angle_end, angle, fair, image, filter, elements, brace_end, member_brace, tuple_brace_after, tuple_brace, brace_from, brace, field_of, record_of, record_set, function_set, index, key_of, update, except, square_end, function, member_square, square_name, square_from, square, bound_set, bound, bounds, groups_of, quantifier, domain, choose, conditional, further_arm, arm, other_arm, case_end, cases, parameters, head, definition, local, bulleted, junction, at, operand, indexed, step_before, step_after, chain_from, nested, reading}
 
 abbrev spot : ℕ → ℕ → Place
 spot line column = record { line = line; column = column }
@@ -37,5 +37,5 @@ rows : (reading (sign 1 3 (codes "/\\") ∷ word 1 6 (codes "A") ∷ sign 2 2 (c
     ≡ Err (fault.At (spot 2 10) kind.Precedence))
     × (reading (sign 2 1 (codes "[") ∷ sign 2 2 (codes "WF_") ∷ word 2 5 (codes "a") ∷ sign 2 7 (codes "|->") ∷ word 2 11 (codes "b") ∷ sign 2 12 (codes "]") ∷ end 3 ∷ []) 0 0 0
     ≡ Err (fault.At (spot 2 7) (kind.Unsupported (codes "|->"))))
-unfolding operator prefix_rows infix_rows words signs same_mark mark sees sees_second refusal after expect name declared opening begins too_deep gathered gathered_from finished operator_in field value literal part arguments named parenthesized tuple subscript angle_end angle fair image filter elements brace_end member_brace tuple_brace_after tuple_brace brace_from brace field_of record_of record_set function_set index key_of update except square_end function member_square square_name square_from square bound_set bound bounds groups_of quantifier domain choose conditional arm other_arm case_end cases parameters head definition local bulleted junction at operand indexed step_before step_after chain_from nested reading
+unfolding operator prefix_rows infix_rows words signs same_mark mark sees sees_second refusal after expect name declared opening begins too_deep gathered gathered_from finished operator_in field value literal part arguments named parenthesized tuple subscript angle_end angle fair image filter elements brace_end member_brace tuple_brace_after tuple_brace brace_from brace field_of record_of record_set function_set index key_of update except square_end function member_square square_name square_from square bound_set bound bounds groups_of quantifier domain choose conditional further_arm arm other_arm case_end cases parameters head definition local bulleted junction at operand indexed step_before step_after chain_from nested reading
 rows = (refl, refl, refl, refl)

@@ -195,7 +195,7 @@ unfoldable pub literal : Reader Node
 literal = λ ts. Ok (node (literal_form (first ts).tok) [] (here ts), next ts)
 
 -- a further arm comes: a `[]` that is not that of OTHER, which is read
-abbrev pub further_arm : Setting → Reader Bool
+unfoldable pub further_arm : Setting → Reader Bool
 further_arm s = λ ts. if sees_second s m.Other ts then Ok (false, ts) else eat s m.Always ts
 
 -- the same sign comes next in the column of the bullets

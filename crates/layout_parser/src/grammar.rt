@@ -13,7 +13,7 @@ ghost use Rattle.layout_parser.specs.Nests.{Nests, Flats, Steps, ended, chain_of
 
 use crate::flat::{Flat, Step};
 use core_expr::Memory;
-use operator_chain::{ChainFault, Piece, tree};
+use operator_chain::{Piece, tree};
 use std::alloc::Global;
 use std::collections::VecDeque;
 use tla_ast::{Fault, Kind, Node};
@@ -46,16 +46,7 @@ pub fn finished(alloc: Global, flat: Flat) -> Result<Node, Fault>
     ensures { (rest : Tokens) → Reads (spec.finished (chain_of flat rest)) result rest }
 {
     let Flat { pieces, fault } = flat;
-    let node = match tree(alloc, pieces) {
-        Ok(node) => node,
-        Err(ChainFault::Memory) => return Err(Fault::Memory),
-        Err(ChainFault::Precedence(place)) => {
-            return Err(Fault::At {
-                place,
-                kind: Kind::Precedence,
-            });
-        }
-    };
+    let node = tree(alloc, pieces)?;
     match fault {
         None => Ok(node),
         Some(fault) => Err(fault),

@@ -1,6 +1,6 @@
 //! IF, CASE, LET.
 
-ghost use Rattle.std.specs.Prelude.{◌≡◌};
+ghost use Rattle.std.specs.Prelude.{◌≡◌, OnOk};
 ghost use Rattle.token_reader.specs.Input as input;
 ghost use Rattle.tla_ast.specs.Answers.{Reads};
 ghost use Rattle.layout_parser.specs.Reading as spec;
@@ -12,11 +12,21 @@ use crate::flat::Flat;
 use crate::grammar::Grammar;
 use core_expr::Memory;
 use sqlite_items::{Boxed, Items};
-use std::alloc::Global;
+use std::alloc::{AllocError, Global};
 use tla_ast::{Decl, Def, Fault, Form, Node, Parts, Place};
 use token_reader::{Around, Cursor, Mark, Setting, Stop, names};
 
+/// One arm more: its guard and its value.
+fn push_arm(parts: &mut Parts<Node>, guard: Node, value: Node) -> Result<(), AllocError>
+    ensures { OnOk result (parts.new ≡ spec.with_arm parts.old (guard, value)) }
+{
+    parts.push(guard)?;
+    parts.push(value)?;
+    Ok(())
+}
+
 /// Reads the `[]` before a further arm, which is not that of OTHER; answers whether one comes.
+#[tactic(auto, unfolding(crate::specs::Reading::further_arm))]
 fn further_arm(cursor: &mut Cursor<'_>, setting: Setting) -> bool
     ensures { spec.further_arm setting cursor.old ≡ Ok (result, cursor.new) }
 {
@@ -62,8 +72,7 @@ impl<F: Fn(Global, &mut Cursor<'_>, usize, usize, Setting, bool) -> Result<Flat,
         let mut parts = Parts::new(self.alloc);
         for _turn in 0..cursor.left() {
             let (guard, value) = self.arm(cursor, setting)?;
-            parts.push(guard)?;
-            parts.push(value)?;
+            push_arm(&mut parts, guard, value)?;
             if !further_arm(cursor, setting) {
                 return Ok(parts);
             }
