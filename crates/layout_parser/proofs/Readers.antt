@@ -471,6 +471,7 @@ module _ (left : ℕ) (inner : ChainReader) (law : OneRightTree) (good : Good in
       record { item = (x, y); is = sym z.0; read = on-same s e1 (on-sign arrow (on-same s e3 (up-to z.1 nothing))) })))
 
   arm-separates : (s : Setting) → Separates s.region s.has_at (sign m.Always ∷ []) (further_arm s)
+  unfolding rule.further_arm
   arm-separates s ts mid more e = by-test {b = sees_second s m.Other ts} e
       (λ _ f. let z = same-end false more ts mid f in (λ yes. absurd (false≢true (z.0 ∙ yes)), λ _. z.1))
       (λ _ f. mark-separates s m.Always refl ts mid more f)

@@ -1,7 +1,7 @@
 -- What a reader has used, step by step.
 use Rattle.std.specs.Prelude.{◌≢◌}
 use Rattle.std.proofs.Common.{length, ◌≡◌, ℕ, zero, suc, ◌≤◌, Bool, true, false, if◌then◌else◌, nat_lt, Result, List, [], ◌∷◌, ◌++◌, Option, Some, None, Ok, Err, refl, sym, subst, ap, ◌∙◌, append_assoc, append-nil, map, arith}
-use Rattle.std.proofs.lemmas.Bool.{true≢false, and_parts}
+use Rattle.std.proofs.lemmas.Bool.{and_parts}
 use Rattle.std.proofs.lemmas.Option.{none-some}
 use Rattle.tla_ast.specs.declared.place.Place.{Place}
 use Rattle.tla_ast.specs.declared.token.Token.{Token}
@@ -142,7 +142,7 @@ no-spelling tok.Eof Infix row e = absurd (none-some _ e)
 no-spelling tok.Eof Postfix row e = absurd (none-some _ e)
 no-spelling _ fix row e = refl
 
-operator-last : (t : Token) (fix : Fix) (r : Option (ℕ × ℕ × Bool)) (o : Operator) → operator (spelling t.tok) fix ≡ r → operator_at t r ≡ Some o → is_last t.tok ≡ false
+pub operator-last : (t : Token) (fix : Fix) (r : Option (ℕ × ℕ × Bool)) (o : Operator) → operator (spelling t.tok) fix ≡ r → operator_at t r ≡ Some o → is_last t.tok ≡ false
 operator-last t fix (Some row) o is e = no-spelling t.tok fix row is
 operator-last t fix None o is e = absurd (none-some _ e)
 

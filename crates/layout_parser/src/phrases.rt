@@ -18,7 +18,7 @@ pub fn expression(
     nestings: usize,
     setting: Setting,
 ) -> Result<Node, Fault>
-    ensures { Reads (spec.part nestings (spec.nested nestings) setting cursor.old) result cursor.new }
+    ensures { Reads (rule nestings spec.part setting cursor.old) result cursor.new }
 {
     let grammar = Grammar {
         alloc,
@@ -35,7 +35,7 @@ pub fn definition_head(
     nestings: usize,
     setting: Setting,
 ) -> Result<Items<Decl>, Fault>
-    ensures { Reads (spec.head nestings (spec.nested nestings) setting cursor.old) result cursor.new }
+    ensures { Reads (rule nestings spec.head setting cursor.old) result cursor.new }
 {
     let grammar = Grammar {
         alloc,
@@ -53,7 +53,7 @@ pub fn bounds(
     setting: Setting,
     names: Items<Decl>,
 ) -> Result<Items<Group>, Fault>
-    ensures { Reads (spec.bounds nestings (spec.nested nestings) setting names cursor.old) result cursor.new }
+    ensures { Reads (rule nestings spec.bounds setting names cursor.old) result cursor.new }
 {
     let grammar = Grammar {
         alloc,

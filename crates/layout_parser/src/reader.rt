@@ -5,7 +5,7 @@ ghost use Rattle.tla_ast.specs.Answers.{Answers, Reads};
 ghost use Rattle.tla_ast.specs.Listing.{IsTokenList};
 ghost use Rattle.layout_parser.specs.Reading as spec;
 
-use crate::grammar::{Grammar, read_chain};
+use crate::grammar::{finished, read_chain};
 use crate::laws::ends_before_the_last;
 use operator_chain::one_right_tree;
 use std::alloc::Global;
@@ -30,12 +30,10 @@ pub fn read_at(
     requires { depth ≤ 200 }
     ensures { Reads (spec.expression depth setting cursor.old) result cursor.new }
 {
-    let grammar = Grammar {
-        alloc,
-        left: (MOST_NESTINGS - depth) as usize + 1,
-        read: read_chain,
-    };
-    grammar.part(cursor, setting)
+    let most = cursor.left();
+    let left = (MOST_NESTINGS - depth) as usize + 1;
+    let flat = read_chain(alloc, cursor, left, most, setting, true)?;
+    finished(alloc, flat)
 }
 
 /// Reads the expression that begins at a token of the list, from 0, of tokens whose column is over `region` alone, with `depth`
