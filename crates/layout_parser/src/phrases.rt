@@ -2,6 +2,7 @@
 
 ghost use Rattle.tla_ast.specs.Answers.{Reads};
 ghost use Rattle.layout_parser.specs.Reading as spec;
+ghost use Rattle.layout_parser.specs.Reading.{rule};
 
 use crate::flat::Flat;
 use crate::grammar::{Grammar, read_chain};
