@@ -174,11 +174,11 @@ pub record ItemRead {A Y : Type 0} (region : ℕ) (has_at : Bool) (form : Y → 
   pub is : a ≡ form item
   pub read : Read region has_at ts rest (symbols item)
 
--- a list has been read: what was found is its items, one after another
-pub record ListRead {A B Y : Type 0} (region : ℕ) (has_at : Bool) (put : B → A → B) (form : Y → A) (symbols : Y → Symbols) (sep : Symbols) (found b : B) (ts rest : Tokens) : Type 0 where
+-- a list has been read: what is read is this whole of its items
+pub record ListRead {B Y : Type 0} (region : ℕ) (has_at : Bool) (whole : List Y → B) (symbols : Y → Symbols) (sep : Symbols) (b : B) (ts rest : Tokens) : Type 0 where
   pub head : Y
   pub tail : List Y
-  pub are : b ≡ puts put form found (head ∷ tail)
+  pub are : b ≡ whole (head ∷ tail)
   pub read : Read region has_at ts rest (spell.between sep (symbols head) (map symbols tail))
 
 -- the test after an item reads these symbols where a further one comes, and nothing where none does
@@ -197,11 +197,13 @@ ask-separates region has_at test ts mid more e = let z = same-end (test ts) more
 -- the one induction on lists
 pub list-read : {A B Y : Type 0} (region : ℕ) (has_at : Bool) (put : B → A → B) (form : Y → A) (symbols : Y → Symbols) (sep : Symbols) (goes_on : Reader Bool) (item : Reader A)
     → ((ts mid : Tokens) (a : A) → item ts ≡ Ok (a, mid) → ItemRead region has_at form symbols a ts mid) → Separates region has_at sep goes_on
-    → (found : B) (ts : Tokens) (b : B) (rest : Tokens) → gathered goes_on item put found ts ≡ Ok (b, rest) → ListRead region has_at put form symbols sep found b ts rest
+    → (found : B) (whole : List Y → B) → ((ys : List Y) → puts put form found ys ≡ whole ys)
+    → (ts : Tokens) (b : B) (rest : Tokens) → gathered goes_on item put found ts ≡ Ok (b, rest) → ListRead region has_at whole symbols sep b ts rest
 unfolding gathered gathered_from
-list-read {A} {B} region has_at put form symbols sep goes_on item reads separates found ts b rest e = turns (length ts) found ts e
+list-read {A} {B} region has_at put form symbols sep goes_on item reads separates found whole is ts b rest e =
+    let h = turns (length ts) found ts e in record { head = h.head; tail = h.tail; are = h.are ∙ is (h.head ∷ h.tail); read = h.read }
   where
-    turns : (n : ℕ) (found : B) (ts : Tokens) → gathered_from n goes_on item put found ts ≡ Ok (b, rest) → ListRead region has_at put form symbols sep found b ts rest
+    turns : (n : ℕ) (found : B) (ts : Tokens) → gathered_from n goes_on item put found ts ≡ Ok (b, rest) → ListRead region has_at (puts put form found) symbols sep b ts rest
     turns zero found ts e = refused e
     turns (suc n) found ts e = got {o = item ts} e (λ a t1 e1 f1. got {o = goes_on t1} f1 (λ more t2 e2 f2. let one = reads ts t1 a e1 in let next-is = separates t1 t2 more e2 in by-reader {b = more} (gathered_from n goes_on item put (put found a)) _ f2
         (λ yes f3. let h = turns n (put found a) t2 f3 in
