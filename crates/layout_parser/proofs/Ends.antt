@@ -1,5 +1,5 @@
 -- Whole readings: the laws.
-use Rattle.std.proofs.Common.{◌≡◌, ℕ, zero, suc, ◌+◌, ◌-◌, ◌≤◌, ◌<◌, Bool, true, false, List, [], ◌∷◌, ◌++◌, length, take, drop, Result, Ok, Err, refl, sym, ap, subst, ◌∙◌, append_assoc, append-nil, arith, nat_lt}
+use Rattle.std.proofs.Common.{◌≡◌, ℕ, zero, suc, ◌+◌, ◌-◌, ◌≤◌, ◌<◌, Bool, true, List, [], ◌∷◌, ◌++◌, length, take, drop, Result, Ok, Err, refl, sym, ap, subst, ◌∙◌, append_assoc, arith, nat_lt}
 use Rattle.std.specs.List.{All}
 use Rattle.std.proofs.lemmas.Bool.{true≢false, ltb-true, lt-ltb}
 use Rattle.std.proofs.lemmas.List.{take-append-drop, length-append, length-drop}
@@ -11,14 +11,14 @@ use Rattle.tla_ast.specs.declared.tree.Node.{Node}
 use Rattle.tla_ast.specs.Listing.{Ends}
 use Rattle.operator_chain.specs.declared.chain.Piece.{Piece}
 use Rattle.operator_chain.specs.Chain.{OneRightTree}
-use Rattle.token_reader.specs.Input.{Tokens, Outcome, first}
+use Rattle.token_reader.specs.Input.{Tokens, Outcome}
 use Rattle.layout_parser.specs.Reading as rule
 use Rattle.layout_parser.specs.Reading.{Chain, reading, nested, outermost, located, nestings_left}
 use Rattle.layout_parser.specs.Laws.{IsReading, ReadInOrder, InsideTheRegion, EndIsExact, EndsBeforeTheLast, EndIsThePlace}
 use Rattle.token_reader.specs.declared.setting.Setting.{Setting}
-use Rattle.layout_parser.specs.Spelling.{Stops, Symbols, expression, MayUse, Spelled, none, token, of_operand, of_tree, of_no_bullet}
+use Rattle.layout_parser.specs.Spelling.{Symbols, expression, MayUse, Spelled, none, token, of_operand, of_tree, of_no_bullet}
 use Rattle.layout_parser.proofs.Steps.{Read, nothing, finish, on-finished, le}
-use Rattle.layout_parser.proofs.Chains.{good-nested, IsMore, more-length, some-used}
+use Rattle.layout_parser.proofs.Chains.{good-nested, more-length, some-used}
 
 -- ---- each token may be used
 

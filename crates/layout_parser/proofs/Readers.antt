@@ -25,7 +25,7 @@ use Rattle.token_reader.specs.declared.setting.Around.TheVariants as around
 use Rattle.token_reader.specs.declared.setting.Setting.{Setting}
 use Rattle.token_reader.specs.declared.setting.Stop.TheVariants as stop
 use Rattle.token_reader.specs.Marks.{spelling, same_mark, mark_of, is_final}
-use Rattle.token_reader.specs.Input.{Tokens, Outcome, first, next, here, sees, sees_second, eat, declared, and_then, within, is_tuple, is_inside, mark, right_of, with_at, after}
+use Rattle.token_reader.specs.Input.{Tokens, first, next, here, sees, sees_second, eat, declared, and_then, within, is_tuple, is_inside, mark, right_of, with_at, after}
 use Rattle.token_reader.specs.Lists.{gathered, gathered_from, put_last, ask, names}
 use Rattle.token_reader.proofs.Steps.{got, refused, same-end, by-test, by-reader, begun, after-no, marks-same, same-marks}
 use Rattle.token_reader.specs.declared.setting.Stop.{Stop}
@@ -35,7 +35,7 @@ use Rattle.layout_parser.specs.Spelling as spell
 use Rattle.layout_parser.specs.Spelling.{Stops, Symbols, sign, sign_at, expression, same, between, word, Operand, Subscript}
 use Rattle.layout_parser.proofs.ChainLaws.{member-listed}
 use Rattle.layout_parser.proofs.Belongs.{member-fits}
-use Rattle.layout_parser.proofs.Steps.{ChainRead, Derives, Good, ItemRead, ListRead, Read, Separates, Stands, Subscribes, ask-separates, at-any-place, behind-sign, both, derived, derived-as, eaten, finish, le, list-read, mark-separates, nothing, on-declared, on-eat, on-finished, on-no, on-no-bullet, on-operand, on-sign, on-sign-at, on-token, on-word, puts, puts-last, puts-same, stands, stands-at, subscribed, subscribed-as, up-from, up-to}
+use Rattle.layout_parser.proofs.Steps.{ChainRead, Derives, Good, ItemRead, ListRead, Read, Separates, Stands, Subscribes, ask-separates, at-any-place, behind-sign, both, derived, derived-as, eaten, le, list-read, mark-separates, nothing, on-declared, on-eat, on-finished, on-no, on-no-bullet, on-operand, on-sign, on-sign-at, on-token, on-word, puts, puts-last, puts-same, stands, stands-at, subscribed, subscribed-as, up-from, up-to}
 
 single : (x : Node) (xs : List Node) → nat_eq (length (x ∷ xs)) 1 ≡ true → xs ≡ []
 single x [] e = refl
