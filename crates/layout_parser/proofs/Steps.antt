@@ -301,9 +301,6 @@ pub subscribed-as : {region : ℕ} {has_at : Bool} {ts mid rest : Tokens} {a b n
     → Read region has_at ts mid parts → Subscribes region has_at ts rest n
 subscribed-as {region = region} {has_at = has_at} {parts = parts} e same made r = subscribed e (subst (λ x. Subscript region has_at x parts) (sym same) made) r
 
-pub on-subscript : {region : ℕ} {has_at : Bool} {ts mid rest : Tokens} {n : Node} {ys : Symbols} → (h : Subscribes region has_at ts mid n) → Read region has_at mid rest ys → Read region has_at ts rest (h.parts ++ ys)
-on-subscript h r = both h.read r
-
 pub on-operand : {region : ℕ} {has_at : Bool} {ts mid rest : Tokens} {n : Node} {parts ys : Symbols} → Operand region has_at n parts → Read region has_at ts mid parts → Read region has_at mid rest ys
     → Read region has_at ts rest (operand n ∷ ys)
 on-operand {region} {has_at} {rest = rest} {parts = parts} made p q = record {
@@ -319,9 +316,6 @@ at-any-place r = record { used = r.used; is = r.is; spelled = forget r.spelled }
     forget : {region : ℕ} {has_at : Bool} {used rest : Tokens} {k : Mark} {place : Place} {ys : Symbols} → Spelled region has_at (sign_at k place ∷ ys) used rest → Spelled region has_at (sign k ∷ ys) used rest
     forget (token t may fits g) = token t may fits.0 g
 
-pub none-after : (s : Setting) (k : Mark) {ts mid : Tokens} {has_at : Bool} {ys : Symbols} → sees s k mid ≡ false → Read s.region has_at ts mid ys → Read s.region has_at ts (after s k mid) ys
-none-after s k {ts = ts} {mid = mid} {has_at = has_at} {ys = ys} unseen r = up-to (sym (after-no s k mid unseen)) r
-
 pub up-from : {region : ℕ} {has_at : Bool} {ts mid rest : Tokens} {ys : Symbols} → ts ≡ mid → Read region has_at mid rest ys → Read region has_at ts rest ys
 up-from {region} {has_at} {rest = rest} {ys = ys} e h = subst (λ l. Read region has_at l rest ys) (sym e) h
 
@@ -329,7 +323,3 @@ up-from {region} {has_at} {rest = rest} {ys = ys} e h = subst (λ l. Read region
 pub behind-sign : {region : ℕ} {has_at : Bool} {ts mid rest : Tokens} {zs : Symbols} (ys : Symbols) (y : Symbol) → Read region has_at ts mid (ys ++ y ∷ []) → Read region has_at mid rest zs
     → Read region has_at ts rest (ys ++ y ∷ zs)
 behind-sign {region} {has_at} {ts} {mid} {rest} {zs} ys y h r = subst (λ l. Read region has_at ts rest l) (append_assoc ys (y ∷ []) zs) (both h r)
-
--- more symbols in front of those before a sign
-pub in-front : {region : ℕ} {has_at : Bool} {ts mid rest : Tokens} (y : Symbol) (xs ys : Symbols) → Read region has_at ts mid xs → Read region has_at mid rest (ys ++ y ∷ []) → Read region has_at ts rest ((xs ++ ys) ++ y ∷ [])
-in-front {region} {has_at} {ts} {mid} {rest} y xs ys h r = subst (λ l. Read region has_at ts rest l) (sym (append_assoc xs ys (y ∷ []))) (both h r)
