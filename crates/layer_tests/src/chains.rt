@@ -1,19 +1,20 @@
+//! Chains of operators and their trees, as a table.
+
 ghost use Rattle.std.specs.Prelude.{◌≡◌, true, false, [], ◌∷◌, ◌++◌, IfOk, OnOk};
 ghost use Rattle.operator_chain.specs.Chain.{IsChain, is_waiting};
 ghost use Rattle.operator_chain.specs.Listed.{AreListed, IsListed};
 
-use super::*;
 use core_expr::{Memory, Text};
-use sqlite_items::Items;
+use operator_chain::{Ending, Operator, Piece, Suffix, tree};
 use std::alloc::{AllocError, Global};
 use std::collections::VecDeque;
 use std_names::Fix;
-use tla_ast::{Form, Node, Place};
+use tla_ast::{Fault, Form, Kind, Node, Parts, Place};
 
 fn named(alloc: Global, word: &[u8], place: Place) -> Result<Node, Memory> {
     Ok(Node {
         form: Form::Name(Text::of(alloc, word)?),
-        parts: Items::new(alloc),
+        parts: Parts::new(alloc),
         place,
     })
 }
@@ -139,14 +140,17 @@ fn is_read(alloc: Global, words: &[&[u8]], want: &Want) -> bool {
     let Ok(chain) = chain_of(alloc, words) else {
         return false;
     };
-    let Ok(has) = has_tree(alloc, &chain) else {
-        return false;
-    };
     match (tree(alloc, chain), want) {
-        (Ok(node), Want::Tree(text)) => has && is_written(alloc, &node, text),
-        (Err(ChainFault::Precedence(place)), Want::Refused(column)) => {
-            !has && place.column == *column
-        }
+        (Ok(node), Want::Tree(text)) => is_written(alloc, &node, text),
+        (
+            Err(
+                Fault::At {
+                    place,
+                    kind: Kind::Precedence,
+                },
+            ),
+            Want::Refused(column),
+        ) => place.column == *column,
         _ => false,
     }
 }
