@@ -8,9 +8,9 @@ use Rattle.tla_ast.specs.declared.token.Tok.{Tok}
 use Rattle.tla_ast.specs.declared.token.Tok.TheVariants as tok
 use Rattle.std_names.specs.declared.operators.Fix.TheVariants.{Infix}
 use Rattle.std_names.specs.Operators.{operator, infix_rows}
-use Rattle.layout_parser.specs.declared.mark.Mark.{Mark}
-use Rattle.layout_parser.specs.declared.mark.Mark.TheVariants as m
-use Rattle.layout_parser.specs.Marks.{Text, words, signs, mark_in, mark_of, spelling, same_mark}
+use Rattle.token_reader.specs.declared.mark.Mark.{Mark}
+use Rattle.token_reader.specs.declared.mark.Mark.TheVariants as m
+use Rattle.token_reader.specs.Marks.{Text, words, signs, mark_in, mark_of, spelling, same_mark}
 use Rattle.layout_parser.specs.Reading.{operator_at}
 
 -- each row with this mark has this text

@@ -1,5 +1,5 @@
 -- A chain piece by piece.
-use Rattle.std.proofs.Common.{◌≡◌, ℕ, suc, if◌then◌else◌, Result, zero, Bool, true, false, List, [], ◌∷◌, ◌++◌, Option, Some, None, Ok, Err, refl, sym, subst, ap, ◌∙◌, append_assoc, append-nil}
+use Rattle.std.proofs.Common.{◌≡◌, ℕ, suc, ◌-◌, ◌<◌, arith, if◌then◌else◌, Result, zero, Bool, true, false, List, [], ◌∷◌, ◌++◌, Option, Some, None, Ok, Err, refl, sym, subst, ap, ◌∙◌, append_assoc, append-nil}
 use Rattle.std.proofs.lemmas.Option.{none-some}
 use Rattle.std.specs.Result.{IfOk}
 use Rattle.std.specs.Prelude.{MatchOption}
@@ -7,7 +7,7 @@ use Rattle.std.proofs.lemmas.Bool.{true≢false, false≢true, cond_both}
 use Rattle.tla_ast.specs.declared.place.Place.{Place}
 use Rattle.tla_ast.specs.declared.tree.Node.{Node}
 use Rattle.tla_ast.specs.declared.token.Token.{Token}
-use Rattle.tla_ast.specs.declared.fault.SynFault.{SynFault}
+use Rattle.tla_ast.specs.declared.fault.Fault.{Fault}
 use Rattle.std_names.specs.declared.operators.Fix.{Fix}
 use Rattle.std_names.specs.declared.operators.Fix.TheVariants.{Prefix, Infix}
 use Rattle.std_names.specs.Operators.{operator, infix_rows, postfix_rows}
@@ -17,17 +17,17 @@ use Rattle.operator_chain.specs.declared.chain.Piece.TheVariants as piece
 use Rattle.operator_chain.specs.Tree.{hole}
 use Rattle.operator_chain.specs.Chain.{IsChain}
 use Rattle.operator_chain.specs.Listed.{IsListed, AreListed}
-use Rattle.layout_parser.specs.declared.mark.Mark.{Mark}
-use Rattle.layout_parser.specs.declared.mark.Mark.TheVariants as m
-use Rattle.layout_parser.specs.declared.setting.Setting.{Setting}
+use Rattle.token_reader.specs.declared.mark.Mark.{Mark}
+use Rattle.token_reader.specs.declared.mark.Mark.TheVariants as m
+use Rattle.token_reader.specs.declared.setting.Setting.{Setting}
 use Rattle.layout_parser.specs.declared.flat.Step.{Step}
 use Rattle.layout_parser.specs.declared.flat.Step.TheVariants.{More, Ended, Broken}
-use Rattle.layout_parser.specs.declared.setting.Stop.TheVariants as stop
+use Rattle.token_reader.specs.declared.setting.Stop.TheVariants as stop
 use Rattle.layout_parser.specs.declared.flat.Flat.{Flat}
 use Rattle.core_expr.specs.declared.memory.Memory.{Memory}
 use Rattle.layout_parser.specs.Nests.{Flats, ended}
-use Rattle.layout_parser.specs.Marks.{Text, spelling}
-use Rattle.layout_parser.specs.Input.{Tokens, Outcome, first, next, here, is_inside, mark, name, too_deep}
+use Rattle.token_reader.specs.Marks.{Text, spelling}
+use Rattle.token_reader.specs.Input.{Tokens, Outcome, first, next, here, is_inside, mark, name, too_deep}
 use Rattle.layout_parser.specs.Reading.{Chain, ChainReader, Stepped, behind, left_over, joined, full, step, step_before, step_after, before_by, after_by, suffixed, by_operand, by_suffix, operand, operator_at, operator_in, index_at, field_at, prime_at, member_at, indexed, field, index, chain_from, nested}
 
 -- ---- the loop
@@ -52,10 +52,10 @@ module _ (left : ℕ) (inner : ChainReader) where
       let all : c ≡ (xs ++ [], Ok rest) = inv ∙ rw is refl in
       (sym (ap (λ p. p.0) all ∙ append-nil xs), ap (λ p. p.1) all)
 
-  broken-step : (p : Stepped) (x : Option Piece) (f : SynFault) (more : Bool → Tokens → Chain) → p.0 ≡ Broken x f → joined p more ≡ (left_over x, Err f)
+  broken-step : (p : Stepped) (x : Option Piece) (f : Fault) (more : Bool → Tokens → Chain) → p.0 ≡ Broken x f → joined p more ≡ (left_over x, Err f)
   broken-step p x f more is = let e : p ≡ (Broken x f, p.1) = ap (λ k. (k, p.1)) is in rw e refl
 
-  pub chain-broken : (n : ℕ) (s : Setting) (waits : Bool) (ts : Tokens) (x : Option Piece) (f : SynFault) (xs : List Piece) (c : Chain)
+  pub chain-broken : (n : ℕ) (s : Setting) (waits : Bool) (ts : Tokens) (x : Option Piece) (f : Fault) (xs : List Piece) (c : Chain)
       → (step left inner s waits ts).0 ≡ Broken x f → c ≡ behind xs (chain_from left inner (suc n) s waits ts) → c ≡ behind xs (left_over x, Err f)
   unfolding chain_from
   chain-broken n s waits ts x f xs c is inv = inv ∙ ap (behind xs) (broken-step (step left inner s waits ts) x f (chain_from left inner n s) is)
@@ -174,7 +174,7 @@ module _ (left : ℕ) (inner : ChainReader) where
   abbrev IsFront : Bool → List Piece → Type 0
   IsFront waits c = IsChain waits c × AreListed c
 
-  front-left : (waits : Bool) (x : Option Piece) (f : SynFault) → IsGood waits (Broken x f) → IsFront waits (left_over x)
+  front-left : (waits : Bool) (x : Option Piece) (f : Fault) → IsGood waits (Broken x f) → IsFront waits (left_over x)
   front-left waits None f g = (front-nil waits, tt)
   front-left waits (Some x) f g = (g.0, (g.1, tt))
 
@@ -238,9 +238,12 @@ two-listed xs ys zs a p place is-xs is-ys is-p h =
 
 -- ---- nestings
 
-pub nested-none : (left n : ℕ) (s : Setting) (waits : Bool) (ts : Tokens) (xs : List Piece) (f : SynFault) → left ≡ 0 → xs ≡ [] → f ≡ too_deep s ts
+pub nested-none : (left n : ℕ) (s : Setting) (waits : Bool) (ts : Tokens) (xs : List Piece) (f : Fault) → left ≡ 0 → xs ≡ [] → f ≡ too_deep s ts
     → (xs ≡ (nested left n s waits ts).0) × ((nested left n s waits ts).1 ≡ Err f)
 unfolding nested
 nested-none left n s waits ts xs f is-left is-xs is-f =
     let e : nested left n s waits ts ≡ ([], Err (too_deep s ts)) = ap (λ k. nested k n s waits ts) is-left in
     (is-xs ∙ sym (ap (λ p. p.0) e), ap (λ p. p.1) e ∙ ap Err (sym is-f))
+
+pub deeper : {X : Type 0} (f : ℕ → X) (n : ℕ) → 0 < n → f n ≡ f (suc (n - 1))
+deeper f n some = let e : n ≡ suc (n - 1) = omega arith in ap f e

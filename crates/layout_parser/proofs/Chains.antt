@@ -2,7 +2,7 @@
 use Rattle.std.proofs.Common.{◌+◌, ◌≤◌, ◌<◌, ◌++◌, length, arith, ◌≡◌, ℕ, zero, suc, Bool, true, false, if◌then◌else◌, List, [], ◌∷◌, Option, Some, None, Result, Ok, Err, refl, sym, ap, subst, ◌∙◌, nat_lt}
 use Rattle.std.proofs.lemmas.Bool.{true≢false, false≢true}
 use Rattle.std.proofs.lemmas.List.{length-append}
-use Rattle.tla_ast.specs.declared.fault.SynFault.{SynFault}
+use Rattle.tla_ast.specs.declared.fault.Fault.{Fault}
 use Rattle.tla_ast.specs.declared.tree.Node.{Node}
 use Rattle.std_names.specs.declared.operators.Fix.TheVariants.{Prefix, Infix}
 use Rattle.std_names.specs.Operators.{operator, infix_rows}
@@ -13,21 +13,22 @@ use Rattle.operator_chain.specs.declared.chain.Ending.{Ending}
 use Rattle.operator_chain.specs.declared.chain.Ending.TheVariants as ending
 use Rattle.operator_chain.specs.Tree.{Tree, leaf, prefixed, suffixed, joined, flat, hole}
 use Rattle.operator_chain.specs.Chain.{IsWhole, OneRightTree}
-use Rattle.layout_parser.specs.declared.mark.Mark.{Mark}
-use Rattle.layout_parser.specs.declared.mark.Mark.TheVariants as m
-use Rattle.layout_parser.specs.declared.setting.Setting.{Setting}
-use Rattle.layout_parser.specs.declared.setting.Stop.TheVariants as stop
+use Rattle.token_reader.specs.declared.mark.Mark.{Mark}
+use Rattle.token_reader.specs.declared.mark.Mark.TheVariants as m
+use Rattle.token_reader.specs.declared.setting.Setting.{Setting}
+use Rattle.token_reader.specs.declared.setting.Stop.TheVariants as stop
 use Rattle.layout_parser.specs.declared.flat.Step.{Step}
 use Rattle.layout_parser.specs.declared.flat.Step.TheVariants.{More, Ended, Broken}
-use Rattle.layout_parser.specs.Marks.{Text, spelling}
-use Rattle.layout_parser.specs.Input.{Tokens, Outcome, first, next, here, mark, is_inside, name}
+use Rattle.token_reader.specs.Marks.{Text, spelling}
+use Rattle.token_reader.specs.Input.{Tokens, Outcome, first, next, here, mark, is_inside, name}
 use Rattle.layout_parser.specs.Reading as rule
-use Rattle.layout_parser.specs.Reading.{Chain, ChainReader, Stepped, behind, operator_in, operator_at, reading, nested, outermost, located, most_nestings, finished}
+use Rattle.layout_parser.specs.Reading.{Chain, ChainReader, Stepped, behind, operator_in, operator_at, nested}
 use Rattle.layout_parser.specs.Spelling.{Stops}
 use Rattle.layout_parser.specs.Spelling as spell
 use Rattle.layout_parser.specs.Spelling.{Symbols, sign_at, expression, Operand, Subscript, MayUse, Spelled, none, token, of_operand, of_tree, of_no_bullet}
 use Rattle.layout_parser.proofs.ChainLaws.{Suits, IsGood, good-step}
-use Rattle.layout_parser.proofs.Steps.{by-test, Read, Stands, nothing, both, up-to, on-sign-at, on-name, on-operator, on-operand, stands-at, Good, ChainRead}
+use Rattle.token_reader.proofs.Steps.{by-test}
+use Rattle.layout_parser.proofs.Steps.{Read, Stands, nothing, both, up-to, on-sign-at, on-name, on-operator, on-operand, stands-at, Good, ChainRead}
 use Rattle.layout_parser.proofs.Readers.{operand, index}
 
 -- ---- what is spelled has a token
@@ -123,10 +124,10 @@ not-ended e = let f : More _ _ ≡ Ended = ap (λ s. s.0) e in absurd (cc)
 no-more : {y : Piece} {o : Bool} {ts us : Tokens} {X : Type 0} → (let s : Stepped = (Ended, ts) in s) ≡ (More y o, us) → X
 no-more e = let f : Ended ≡ More _ _ = ap (λ s. s.0) e in absurd (cc)
 
-not-broken : {x : Option Piece} {f : SynFault} {y : Piece} {o : Bool} {ts us : Tokens} {X : Type 0} → (let s : Stepped = (Broken x f, ts) in s) ≡ (More y o, us) → X
+not-broken : {x : Option Piece} {f : Fault} {y : Piece} {o : Bool} {ts us : Tokens} {X : Type 0} → (let s : Stepped = (Broken x f, ts) in s) ≡ (More y o, us) → X
 not-broken e = let g : Broken _ _ ≡ More _ _ = ap (λ s. s.0) e in absurd (cc)
 
-broken-ended : {x : Option Piece} {f : SynFault} {ts us : Tokens} {X : Type 0} → (let s : Stepped = (Broken x f, ts) in s) ≡ (Ended, us) → X
+broken-ended : {x : Option Piece} {f : Fault} {ts us : Tokens} {X : Type 0} → (let s : Stepped = (Broken x f, ts) in s) ≡ (Ended, us) → X
 broken-ended e = let g : Broken _ _ ≡ Ended = ap (λ s. s.0) e in absurd (cc)
 
 whole-piece : (waits opens : Bool) (x : Piece) (c : List Piece) → Suits waits x opens → IsWhole opens c → IsWhole waits (x ∷ c)
@@ -143,10 +144,10 @@ whole-piece true o (piece.Infix a) c s h = absurd (true≢false s.0)
 whole-piece false true (piece.Postfix a) c s h = absurd (true≢false s.1)
 whole-piece true o (piece.Postfix a) c s h = absurd (true≢false s.0)
 
-pub same-tokens : (ts us : Tokens) → (let r : Result Tokens SynFault = Ok ts in r) ≡ Ok us → ts ≡ us
+pub same-tokens : (ts us : Tokens) → (let r : Result Tokens Fault = Ok ts in r) ≡ Ok us → ts ≡ us
 same-tokens ts us e = ap of_ok e
   where
-    of_ok : Result Tokens SynFault → Tokens
+    of_ok : Result Tokens Fault → Tokens
     of_ok (Ok l) = l
     of_ok (Err f) = ts
 
@@ -255,7 +256,7 @@ module _ (left : ℕ) (inner : ChainReader) (law : OneRightTree) (good : Good in
 
   chain-read : (n : ℕ) (s : Setting) (waits : Bool) (ts rest : Tokens) (xs : List Piece) → rule.chain_from left inner n s waits ts ≡ (xs, Ok rest) → ChainRead s waits ts rest xs
   unfolding rule.chain_from
-  chain-read zero s true ts rest xs e = let f : (let r : Result Tokens SynFault = rule.full s true ts in r) ≡ Ok rest = ap (λ p. p.1) e in absurd (cc)
+  chain-read zero s true ts rest xs e = let f : (let r : Result Tokens Fault = rule.full s true ts in r) ≡ Ok rest = ap (λ p. p.1) e in absurd (cc)
   chain-read zero s false ts rest xs e = let is-xs : [] ≡ xs = ap (λ p. p.0) e in let is-rest = same-tokens ts rest (ap (λ p. p.1) e) in
       subst (λ l. ChainRead s false ts rest l) is-xs (record { whole = tt; listed = tt; read = up-to is-rest nothing })
   chain-read (suc n) s waits ts rest xs e = by-step (rule.step left inner s waits ts) refl (good-step left inner s waits ts) (chain-read n) e
@@ -271,11 +272,11 @@ module _ (left : ℕ) (inner : ChainReader) (law : OneRightTree) (good : Good in
       by-step (Ended, us) is g more f = let h = step-stopped s waits ts us is in
           subst (λ l. ChainRead s waits ts rest l) (ap (λ p. p.0) f)
           (let r : ChainRead s waits ts rest [] = record { whole = whole-none waits h.done; listed = tt; read = up-to (sym h.here ∙ same-tokens us rest (ap (λ p. p.1) f)) nothing } in r)
-      by-step (Broken x q, us) is g more f = let z : (let r : Result Tokens SynFault = Err q in r) ≡ Ok rest = ap (λ p. p.1) f in absurd (cc)
+      by-step (Broken x q, us) is g more f = let z : (let r : Result Tokens Fault = Err q in r) ≡ Ok rest = ap (λ p. p.1) f in absurd (cc)
 
   chain-stops : (n : ℕ) (s : Setting) (waits : Bool) (ts rest : Tokens) (xs : List Piece) → length ts ≤ n → rule.chain_from left inner n s waits ts ≡ (xs, Ok rest) → Stops s.region (first rest)
   unfolding rule.chain_from
-  chain-stops zero s true ts rest xs few e = let f : (let r : Result Tokens SynFault = rule.full s true ts in r) ≡ Ok rest = ap (λ p. p.1) e in absurd (cc)
+  chain-stops zero s true ts rest xs few e = let f : (let r : Result Tokens Fault = rule.full s true ts in r) ≡ Ok rest = ap (λ p. p.1) e in absurd (cc)
   chain-stops zero s false ts rest xs few e = subst (λ l. Stops s.region (first l)) (same-tokens ts rest (ap (λ p. p.1) e)) (empty-stops s.region ts few)
   chain-stops (suc n) s waits ts rest xs few e = by-step (rule.step left inner s waits ts) refl (chain-stops n) e
     where
@@ -288,10 +289,10 @@ module _ (left : ℕ) (inner : ChainReader) (law : OneRightTree) (good : Good in
           more s opens us rest c.0 (omega (arith, less, few)) (λ i. (c.0, (ap (λ p. p.1) f) i))
       by-step (Ended, us) is more f = let h = step-stopped s waits ts us is in
           subst (λ l. Stops s.region (first l)) (sym h.here ∙ same-tokens us rest (ap (λ p. p.1) f)) h.stops
-      by-step (Broken x q, us) is more f = let z : (let r : Result Tokens SynFault = Err q in r) ≡ Ok rest = ap (λ p. p.1) f in absurd (cc)
+      by-step (Broken x q, us) is more f = let z : (let r : Result Tokens Fault = Err q in r) ≡ Ok rest = ap (λ p. p.1) f in absurd (cc)
 
 pub good-nested : OneRightTree → (left : ℕ) → Good (nested left)
 unfolding nested
-good-nested law zero n s waits ts rest xs e = let z : (let r : Result Tokens SynFault = (nested zero n s waits ts).1 in r) ≡ Ok rest = ap (λ p. p.1) e in absurd (cc)
+good-nested law zero n s waits ts rest xs e = let z : (let r : Result Tokens Fault = (nested zero n s waits ts).1 in r) ≡ Ok rest = ap (λ p. p.1) e in absurd (cc)
 good-nested law (suc left) n s waits ts rest xs e =
     (chain-read left (nested left) law (good-nested law left) n s waits ts rest xs e, λ few. chain-stops left (nested left) law (good-nested law left) n s waits ts rest xs few e)

@@ -6,14 +6,16 @@ use Rattle.std.proofs.lemmas.List.{take-append-drop, length-append, length-drop}
 use Rattle.std.proofs.lemmas.List.Elements.{All-nil, All-cons}
 use Rattle.std.proofs.Math.Seq.{drop-append_seam}
 use Rattle.tla_ast.specs.declared.token.Token.{Token}
-use Rattle.tla_ast.specs.declared.fault.SynFault.{SynFault}
+use Rattle.tla_ast.specs.declared.fault.Fault.{Fault}
 use Rattle.tla_ast.specs.declared.tree.Node.{Node}
 use Rattle.tla_ast.specs.Listing.{Ends}
 use Rattle.operator_chain.specs.declared.chain.Piece.{Piece}
 use Rattle.operator_chain.specs.Chain.{OneRightTree}
-use Rattle.layout_parser.specs.Input.{Tokens, Outcome, first}
-use Rattle.layout_parser.specs.Reading.{Chain, reading, nested, outermost, located, most_nestings, finished}
-use Rattle.layout_parser.specs.Laws.{IsReading, Uses, ReadInOrder, InsideTheRegion, EndIsExact, EndsBeforeTheLast}
+use Rattle.token_reader.specs.Input.{Tokens, Outcome, first}
+use Rattle.layout_parser.specs.Reading as rule
+use Rattle.layout_parser.specs.Reading.{Chain, reading, nested, outermost, located, nestings_left}
+use Rattle.layout_parser.specs.Laws.{IsReading, ReadInOrder, InsideTheRegion, EndIsExact, EndsBeforeTheLast, EndIsThePlace}
+use Rattle.token_reader.specs.declared.setting.Setting.{Setting}
 use Rattle.layout_parser.specs.Spelling.{Stops, Symbols, expression, MayUse, Spelled, none, token, of_operand, of_tree, of_no_bullet}
 use Rattle.layout_parser.proofs.Steps.{Read, nothing, finish, on-finished, le}
 use Rattle.layout_parser.proofs.Chains.{good-nested, IsMore, more-length, some-used}
@@ -49,40 +51,61 @@ may-use {region} (of_tree {inner = inner} {used = used} {more = more} t is right
 
 -- ---- readings
 
--- a reading: the chain that it was, the tokens after it, and those that it used
-record Told (ts : Tokens) (from region depth : ℕ) (n : Node) (to : ℕ) : Type 0 where
-  pub rest : Tokens
+-- a reading: the chain that it was, and the tokens that it used
+record Told (depth : ℕ) (s : Setting) (ts : Tokens) (n : Node) (rest : Tokens) : Type 0 where
   pub xs : List Piece
-  pub chain : nested (suc (most_nestings - depth)) (length (drop from ts)) (outermost region) true (drop from ts) ≡ (xs, Ok rest)
-  pub to_is : length ts - length rest ≡ to
-  pub read : Read region false (drop from ts) rest (expression region false n ∷ [])
+  pub chain : nested (nestings_left depth) (length ts) s true ts ≡ (xs, Ok rest)
+  pub read : Read s.region s.has_at ts rest (expression s.region s.has_at n ∷ [])
 
-same-pair : (p q : Node × ℕ) → (let r : Result (Node × ℕ) SynFault = Ok p in r) ≡ Ok q → p ≡ q
+told : OneRightTree → (depth : ℕ) (s : Setting) (ts : Tokens) (n : Node) (rest : Tokens) → IsReading depth s ts n rest → Told depth s ts n rest
+told law depth s ts n rest e = let c : Chain = nested (nestings_left depth) (length ts) s true ts in record {
+  xs = c.0;
+  chain = (finish c n rest e).chain;
+  read = on-finished law s c (le s.region) e (λ xs us at. let all = good-nested law (nestings_left depth) (length ts) s true ts us xs at in (all.0, all.1 (le (length ts)))) nothing;
+}
+
+pub in-order : OneRightTree → ReadInOrder
+in-order law depth s ts n rest e = let h = told law depth s ts n rest e in (h.read.used, h.read.is, h.read.spelled)
+
+pub inside : OneRightTree → InsideTheRegion
+inside law depth s ts n rest e = let h = told law depth s ts n rest e in (
+  h.read.used,
+  h.read.is,
+  each-all (λ t. nat_lt s.region t.place.column ≡ true) h.read.used
+      (each-map (MayUse s.region) (λ t. nat_lt s.region t.place.column ≡ true) (λ t may. may.0) h.read.used (may-use h.read.spelled)),
+)
+
+-- ---- the end of a reading
+
+pub exact : OneRightTree → EndIsExact
+exact law depth s ts n rest e = let h = told law depth s ts n rest e in
+    let all = good-nested law (nestings_left depth) (length ts) s true ts rest h.xs h.chain in
+    all.1 (le (length ts))
+
+-- ---- the last token
+
+-- no token that may be used ends a list
+ends-behind : (region : ℕ) (used rest : Tokens) → Each (MayUse region) used → Ends (used ++ rest) → Ends rest
+ends-behind region [] rest each e = e
+ends-behind region (t ∷ []) [] each e = absurd (true≢false (sym e ∙ each.0.1))
+ends-behind region (t ∷ []) (u ∷ us) each e = e.1
+ends-behind region (t ∷ u ∷ us) rest each e = ends-behind region (u ∷ us) rest each.1 e.1
+
+pub before-last : OneRightTree → EndsBeforeTheLast
+before-last law depth s ts n rest ends e =
+    let h = told law depth s ts n rest e in
+    let parts : length ts ≡ length h.read.used + length rest = ap length h.read.is ∙ length-append h.read.used rest in
+    let some : 0 < length h.read.used = more-length h.read.used (some-used h.read.spelled tt) in
+    (ends-behind s.region h.read.used rest (may-use h.read.spelled) (subst Ends h.read.is ends), omega arith)
+
+-- ---- readings at a place of a list
+
+same-pair : (p q : Node × ℕ) → (let r : Result (Node × ℕ) Fault = Ok p in r) ≡ Ok q → p ≡ q
 same-pair p q e = ap of_ok e
   where
-    of_ok : Result (Node × ℕ) SynFault → Node × ℕ
+    of_ok : Result (Node × ℕ) Fault → Node × ℕ
     of_ok (Ok x) = x
     of_ok (Err f) = p
-
-told : OneRightTree → (ts : Tokens) (from region depth : ℕ) (n : Node) (to : ℕ) → IsReading ts from region depth n to → Told ts from region depth n to
-unfolding reading
-told law ts from region depth n to e = by-outcome (finished c) refl e
-  where
-    c : Chain
-    c = nested (suc (most_nestings - depth)) (length (drop from ts)) (outermost region) true (drop from ts)
-
-    by-outcome : (r : Outcome Node) → finished c ≡ r → located ts r ≡ Ok (n, to) → Told ts from region depth n to
-    by-outcome (Ok p) is f =
-        let node-is : p.0 ≡ n = ap (λ q. q.0) (same-pair (p.0, length ts - length p.1) (n, to) f) in
-        let whole : finished c ≡ Ok (n, p.1) = is ∙ ap (λ x. Ok (x, p.1)) node-is in
-        record {
-          rest = p.1;
-          xs = c.0;
-          chain = (finish c n p.1 whole).chain;
-          to_is = ap (λ q. q.1) (same-pair (p.0, length ts - length p.1) (n, to) f);
-          read = on-finished law (outermost region) c (le region) whole (λ xs us at. let all = good-nested law (suc (most_nestings - depth)) (length (drop from ts)) (outermost region) true (drop from ts) us xs at in (all.0, all.1 (le (length (drop from ts))))) nothing;
-        }
-    by-outcome (Err x) is f = absurd (cc)
 
 back : (ts pre rest : Tokens) → ts ≡ pre ++ rest → drop (length ts - length rest) ts ≡ rest
 back ts pre rest e =
@@ -90,71 +113,35 @@ back ts pre rest e =
     let at : length ts - length rest ≡ length pre = omega arith in
     ap (λ k. drop k ts) at ∙ ap (λ l. drop (length pre) l) e ∙ drop-append_seam pre rest
 
-module _ {ts : Tokens} {from region depth : ℕ} {n : Node} {to : ℕ} (h : Told ts from region depth n to) where
-  split : ts ≡ (take from ts ++ h.read.used) ++ h.rest
-  split = sym (take-append-drop from ts) ∙ ap (λ l. take from ts ++ l) h.read.is ∙ sym (append_assoc (take from ts) h.read.used h.rest)
-
-  rest-is : drop to ts ≡ h.rest
-  rest-is = ap (λ k. drop k ts) (sym h.to_is) ∙ back ts (take from ts ++ h.read.used) h.rest split
-
-  used-more : IsMore h.read.used
-  used-more = some-used h.read.spelled tt
-
-  uses : Uses ts from to h.read.used
-  uses =
-      let left-length : length (drop from ts) ≡ length ts - from = length-drop from ts in
-      let parts : length (drop from ts) ≡ length h.read.used + length h.rest = ap length h.read.is ∙ length-append h.read.used h.rest in
-      let some : 0 < length h.read.used = more-length h.read.used used-more in
-      let to-is : length ts - length h.rest ≡ to = h.to_is in
-      record { are = h.read.is ∙ ap (λ l. h.read.used ++ l) (sym rest-is); some = omega arith; within = omega arith }
-
-pub in-order : OneRightTree → ReadInOrder
-in-order law ts from region depth n to e = let h = told law ts from region depth n to e in (h.read.used, uses h, subst (Spelled region false (expression region false n ∷ []) h.read.used) (sym (rest-is h)) h.read.spelled)
-
-pub inside : OneRightTree → InsideTheRegion
-inside law ts from region depth n to e = let h = told law ts from region depth n to e in (
-  h.read.used,
-  uses h,
-  each-all (λ t. nat_lt region t.place.column ≡ true) h.read.used
-      (each-map (MayUse region) (λ t. nat_lt region t.place.column ≡ true) (λ t may. may.0) h.read.used (may-use h.read.spelled)),
-)
-
--- ---- the end of a reading
-
-pub exact : OneRightTree → EndIsExact
-exact law ts from region depth n to e = let h = told law ts from region depth n to e in
-    let all = good-nested law (suc (most_nestings - depth)) (length (drop from ts)) (outermost region) true (drop from ts) h.rest h.xs h.chain in
-    subst (λ l. Stops region (first l)) (sym (rest-is h)) (all.1 (le (length (drop from ts))))
-
--- ---- the last token
-
-tail-ends : (t : Token) (ts : Tokens) → IsMore ts → Ends (t ∷ ts) → Ends ts
-tail-ends t [] more e = absurd more
-tail-ends t (u ∷ us) more e = e.1
-
-no-end : (region : ℕ) (ts : Tokens) → Each (MayUse region) ts → IsMore ts → Ends ts → ⊥
-no-end region [] each more e = more
-no-end region (t ∷ []) each more e = true≢false (sym e ∙ each.0.1)
-no-end region (t ∷ u ∷ us) each more e = no-end region (u ∷ us) each.1 tt e.1
-
-no-end-behind : (region : ℕ) (xs ts : Tokens) → Each (MayUse region) ts → IsMore ts → Ends (xs ++ ts) → ⊥
-no-end-behind region [] ts each more e = no-end region ts each more e
-no-end-behind region (x ∷ xs) ts each more e = no-end-behind region xs ts each more (tail-ends x (xs ++ ts) (more-behind xs ts more) e)
+pub at-place : OneRightTree → EndIsThePlace
+unfolding reading
+at-place law ts from region depth n to e = by-outcome (rule.expression depth (outermost region) (drop from ts)) refl e
   where
-    more-behind : (xs ts : Tokens) → IsMore ts → IsMore (xs ++ ts)
-    more-behind [] ts m = m
-    more-behind (x ∷ xs) ts m = tt
+    by-outcome : (r : Outcome Node) → rule.expression depth (outermost region) (drop from ts) ≡ r → located ts r ≡ Ok (n, to) → IsReading depth (outermost region) (drop from ts) n (drop to ts)
+    by-outcome (Ok p) is f =
+        let same = same-pair (p.0, length ts - length p.1) (n, to) f in
+        let h = told law depth (outermost region) (drop from ts) p.0 p.1 is in
+        let split : ts ≡ (take from ts ++ h.read.used) ++ p.1 = sym (take-append-drop from ts) ∙ ap (λ l. take from ts ++ l) h.read.is ∙ sym (append_assoc (take from ts) h.read.used p.1) in
+        let rest-is : p.1 ≡ drop to ts = sym (back ts (take from ts ++ h.read.used) p.1 split) ∙ ap (λ q. drop q.1 ts) same in
+        is ∙ (λ i. Ok ((same i).0, rest-is i))
+    by-outcome (Err x) is f = absurd (cc)
 
-rest-more : {ts : Tokens} {from region depth : ℕ} {n : Node} {to : ℕ} (h : Told ts from region depth n to) → Ends ts → (rest : Tokens) → h.rest ≡ rest → IsMore rest
-rest-more {ts} {from} {region} h e (t ∷ us) is = tt
-rest-more {ts} {from} {region} h e [] is = no-end-behind region (take from ts) h.read.used (may-use h.read.spelled) (used-more h)
-    (subst Ends (split h ∙ ap (λ l. (take from ts ++ h.read.used) ++ l) is ∙ append-nil (take from ts ++ h.read.used)) e)
+ends-drop : (from : ℕ) (ts : Tokens) → from < length ts → Ends ts → Ends (drop from ts)
+ends-drop zero ts within e = e
+ends-drop (suc n) [] within e = absurd e
+ends-drop (suc n) (t ∷ []) within e = absurd (omega (arith, within))
+ends-drop (suc n) (t ∷ u ∷ us) within e = ends-drop n (u ∷ us) (omega (arith, within)) e.1
 
-pub before-last : OneRightTree → EndsBeforeTheLast
-before-last law ts from region depth n to list e =
-    let h = told law ts from region depth n to e in
-    let u = uses h in
-    let some : 0 < length h.rest = more-length h.rest (rest-more h list.1 h.rest refl) in
-    let at : length ts - length h.rest ≡ to = h.to_is in
-    let first-used : from < to = u.some in
-    (first-used, omega arith)
+more-ends : (ts : Tokens) → Ends ts → 0 < length ts
+more-ends [] e = absurd e
+more-ends (t ∷ ts) e = omega arith
+
+-- where a reading at a place of a list ends
+pub within-list : OneRightTree → EndsBeforeTheLast → (ts : Tokens) (from region depth : ℕ) (n : Node) (to : ℕ) → Ends ts → from < length ts → reading ts from region depth ≡ Ok (n, to) → (from < to) × (to < length ts)
+within-list law last ts from region depth n to ends below e =
+    let h = last depth (outermost region) (drop from ts) n (drop to ts) (ends-drop from ts below ends) (at-place law ts from region depth n to e) in
+    let some : 0 < length (drop to ts) = more-ends (drop to ts) h.0 in
+    let fewer : length (drop to ts) < length (drop from ts) = h.1 in
+    let a : length (drop from ts) ≡ length ts - from = length-drop from ts in
+    let b : length (drop to ts) ≡ length ts - to = length-drop to ts in
+    (omega arith, omega arith)

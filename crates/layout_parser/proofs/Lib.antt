@@ -1,4 +1,3 @@
-pub mod Turns
 pub mod ChainLaws
 pub mod Rows
 pub mod Belongs

@@ -1,7 +1,7 @@
 -- What each rule has used.
 use Rattle.std.specs.Prelude.{◌≢◌}
-use Rattle.std.proofs.Common.{◌≡◌, ℕ, zero, suc, ◌≤◌, ◌<◌, nat_lt, Bool, true, false, if◌then◌else◌, List, [], ◌∷◌, ◌++◌, length, Ok, Err, refl, sym, ap, subst, ◌∙◌, append_assoc, arith, nat_eq, ◌&&◌, ◌||◌, not, map, Option, Some, None}
-use Rattle.std.proofs.lemmas.Bool.{and_parts, and_from, eqb-true, eq-eqb, ltb-true, true≢false}
+use Rattle.std.proofs.Common.{◌≡◌, ℕ, zero, suc, ◌≤◌, ◌<◌, nat_lt, Bool, true, false, if◌then◌else◌, List, [], ◌∷◌, ◌++◌, length, Ok, Err, refl, sym, ap, subst, ◌∙◌, append_assoc, append-nil, arith, nat_eq, ◌&&◌, ◌||◌, not, map, Option, Some, None}
+use Rattle.std.proofs.lemmas.Bool.{and_parts, and_from, eqb-true, eq-eqb, ltb-true, true≢false, false≢true}
 use Rattle.tla_ast.specs.declared.place.Place.{Place}
 use Rattle.tla_ast.specs.declared.tree.Node.{Node, out-Node}
 use Rattle.tla_ast.specs.declared.tree.Form.TheVariants as form
@@ -15,39 +15,66 @@ use Rattle.operator_chain.specs.declared.chain.Ending.{Ending}
 use Rattle.operator_chain.specs.declared.chain.Ending.TheVariants as ending
 use Rattle.layout_parser.specs.declared.square.Fields.{Fields}
 use Rattle.layout_parser.specs.declared.except.Updates.{Updates}
-use Rattle.layout_parser.specs.declared.words.Arms.{Arms}
-use Rattle.layout_parser.specs.declared.bound.After.{After}
-use Rattle.layout_parser.specs.declared.bound.After.TheVariants as after_bound
 use Rattle.operator_chain.specs.Chain.{OneRightTree}
 use Rattle.operator_chain.specs.declared.chain.Piece.{Piece}
 use Rattle.operator_chain.specs.declared.chain.Piece.TheVariants as piece
-use Rattle.layout_parser.specs.declared.mark.Mark.{Mark}
-use Rattle.layout_parser.specs.declared.mark.Mark.TheVariants as m
-use Rattle.layout_parser.specs.declared.setting.Around.{Around}
-use Rattle.layout_parser.specs.declared.setting.Around.TheVariants as around
-use Rattle.layout_parser.specs.declared.setting.Setting.{Setting}
-use Rattle.layout_parser.specs.declared.setting.Stop.TheVariants as stop
-use Rattle.layout_parser.specs.Marks.{spelling, same_mark, mark_of}
-use Rattle.layout_parser.specs.Input.{Tokens, Outcome, first, next, here, sees, sees_second, declared, and_then, within, is_tuple, is_inside, mark, right_of, with_at, after}
+use Rattle.token_reader.specs.declared.mark.Mark.{Mark}
+use Rattle.token_reader.specs.declared.mark.Mark.TheVariants as m
+use Rattle.token_reader.specs.declared.setting.Around.{Around}
+use Rattle.token_reader.specs.declared.setting.Around.TheVariants as around
+use Rattle.token_reader.specs.declared.setting.Setting.{Setting}
+use Rattle.token_reader.specs.declared.setting.Stop.TheVariants as stop
+use Rattle.token_reader.specs.Marks.{spelling, same_mark, mark_of, is_final}
+use Rattle.token_reader.specs.Input.{Tokens, Outcome, first, next, here, sees, sees_second, eat, declared, and_then, within, is_tuple, is_inside, mark, right_of, with_at, after}
+use Rattle.token_reader.specs.Lists.{gathered, gathered_from, put_last, ask, names}
+use Rattle.token_reader.proofs.Steps.{got, refused, same-end, by-test, by-reader, begun, after-no, marks-same, same-marks}
+use Rattle.token_reader.specs.declared.setting.Stop.{Stop}
 use Rattle.layout_parser.specs.Reading as rule
-use Rattle.layout_parser.specs.Reading.{Chain, ChainReader, part, behind, after_member, member_at, is_whole, is_tuple_form, with_field, with_update}
+use Rattle.layout_parser.specs.Reading.{Chain, ChainReader, part, behind, after_member, member_at, ends_at, is_tuple_form, with_field, with_update, with_arm, begins_key, further_arm, sees_bullet}
 use Rattle.layout_parser.specs.Spelling as spell
 use Rattle.layout_parser.specs.Spelling.{Stops, Symbols, sign, sign_at, expression, same, between, word, Operand, Subscript}
 use Rattle.layout_parser.proofs.ChainLaws.{member-listed}
 use Rattle.layout_parser.proofs.Belongs.{member-fits}
-use Rattle.layout_parser.proofs.Steps.{on-no-bullet, same-marks, in-front, after-no, stands-at, marks-same, behind-sign, up-from, is_outside, at-any-place, none-after, on-token, on-operand, finish, got, refused, derived-as, subscribed-as, eaten, begun, by-test, by-reader, same-end, Read, Stands, stands, nothing, both, up-to, on-sign, on-sign-at, on-word, on-declared, on-eat, on-no, Good, ChainRead, on-finished, le, Derives, derived, Subscribes, subscribed}
+use Rattle.layout_parser.proofs.Steps.{ChainRead, Derives, Good, ItemRead, Read, Separates, Stands, Subscribes, ask-separates, at-any-place, behind-sign, both, derived, derived-as, eaten, finish, le, list-read, mark-separates, nothing, on-declared, on-eat, on-finished, on-no, on-no-bullet, on-operand, on-sign, on-sign-at, on-token, on-word, puts, puts-last, puts-same, stands, stands-at, subscribed, subscribed-as, up-from, up-to}
 
 single : (x : Node) (xs : List Node) → nat_eq (length (x ∷ xs)) 1 ≡ true → xs ≡ []
 single x [] e = refl
 single x (y ∷ ys) e = let two : length (x ∷ y ∷ ys) ≡ 1 = eqb-true _ 1 e in absurd (omega (arith, two))
 
-not-nil : {A : Type 0} (xs : List A) (x : A) → xs ++ x ∷ [] ≡ [] → ⊥
-not-nil [] x e = absurd (cc)
-not-nil (y ∷ ys) x e = absurd (cc)
+-- the fields, updates and arms that were put one after another
+puts-fields : (found : Fields) (fs : List (Decl × Node)) → puts with_field (λ f. f) found fs ≡ record { names = found.names ++ spell.names_of fs; parts = found.parts ++ spell.parts_of fs }
+puts-fields found [] = λ i. record { names = sym (append-nil found.names) i; parts = sym (append-nil found.parts) i }
+puts-fields found (f ∷ fs) = puts-fields (with_field found f) fs ∙ (λ i. record {
+  names = append_assoc found.names (f.0.name ∷ []) (spell.names_of fs) i;
+  parts = append_assoc found.parts (rule.node (form.Name f.0.name) [] f.0.place ∷ f.1 ∷ []) (spell.parts_of fs) i;
+})
 
-empty : {A : Type 0} (xs : List A) → nat_eq (length xs) 0 ≡ true → xs ≡ []
-empty [] e = refl
-empty (x ∷ xs) e = let none : length (x ∷ xs) ≡ 0 = eqb-true _ 0 e in absurd (omega (arith, none))
+abbrev updated : spell.Update → Path × Node
+updated u = (roll-Path (record { keys = u.0 ∷ u.1 }), u.2)
+
+puts-updates : (found : Updates) (us : List spell.Update) → puts with_update updated found us ≡ record { paths = found.paths ++ spell.paths_of us; parts = found.parts ++ spell.values_of us }
+puts-updates found [] = λ i. record { paths = sym (append-nil found.paths) i; parts = sym (append-nil found.parts) i }
+puts-updates found (u ∷ us) = puts-updates (with_update found (updated u)) us ∙ (λ i. record {
+  paths = append_assoc found.paths (roll-Path (record { keys = u.0 ∷ u.1 }) ∷ []) (spell.paths_of us) i;
+  parts = append_assoc found.parts (u.2 ∷ []) (spell.values_of us) i;
+})
+
+puts-arms : (found : List Node) (arms : List spell.Arm) → puts with_arm (λ a. a) found arms ≡ found ++ spell.arm_parts arms
+puts-arms found [] = sym (append-nil found)
+puts-arms found (a ∷ more) = puts-arms (with_arm found a) more ∙ append_assoc found (a.0 ∷ a.1 ∷ []) (spell.arm_parts more)
+
+-- names have been read
+pub record Named (s : Setting) (ns : List Decl) (ts rest : Tokens) : Type 0 where
+  pub head : Decl
+  pub tail : List Decl
+  pub are : ns ≡ head ∷ tail
+  pub read : Read s.region s.has_at ts rest (spell.names head tail)
+
+names-read : (s : Setting) (before : Stop) (ts : Tokens) (ns : List Decl) (rest : Tokens) → names s before ts ≡ Ok (ns, rest) → Named s ns ts rest
+names-read s before ts ns rest e =
+    let h = list-read s.region s.has_at put_last (λ d. d) (λ d. spell.declared d ∷ []) spell.comma (eat s m.Comma) (declared s before)
+    (λ us mid d f. record { item = d; is = refl; read = on-declared s before f nothing }) (mark-separates s m.Comma refl) [] ts ns rest e in
+    record { head = h.head; tail = h.tail; are = h.are ∙ puts-same [] (h.head ∷ h.tail); read = h.read }
 
 other-bullet : (column : ℕ) (k : Mark) (ts : Tokens) → (nat_eq (here ts).column column && same_mark (mark ts) k) ≡ false → mark_of (first ts).tok ≡ k → (here ts).column ≢ column
 unfolding mark
@@ -80,16 +107,11 @@ module _ (left : ℕ) (inner : ChainReader) (law : OneRightTree) (good : Good in
     pub are : xs ≡ found ++ head ∷ tail
     pub read : Read s.region s.has_at ts rest (spell.expressions s.region s.has_at head tail)
 
-  expressions-from : (n : ℕ) (s : Setting) (found : List Node) (ts : Tokens) (xs : List Node) (rest : Tokens) → rule.expressions_from left inner n s found ts ≡ Ok (xs, rest) → Listed s found xs ts rest
-  unfolding rule.expressions_from
-  expressions-from zero s found ts xs rest e = refused e
-  expressions-from (suc n) s found ts xs rest e = got e (λ x mid e1 e2. by-reader _ _ e2
-      (λ comma e3. let h = expressions-from n s (found ++ x ∷ []) _ xs rest e3 in record { head = x; tail = h.head ∷ h.tail; are = h.are ∙ append_assoc found (x ∷ []) (h.head ∷ h.tail); read = on-same s e1 (on-eat s refl comma h.read) })
-      (λ none e3. let h = same-end _ _ _ _ e3 in record { head = x; tail = []; are = sym h.0; read = on-same s e1 (on-no s _ none (up-to h.1 nothing)) }))
-
   expressions : (s : Setting) (found : List Node) (ts : Tokens) (xs : List Node) (rest : Tokens) → rule.expressions left inner s found ts ≡ Ok (xs, rest) → Listed s found xs ts rest
-  unfolding rule.expressions
-  expressions s found ts xs rest e = expressions-from (length ts) s found ts xs rest e
+  expressions s found ts xs rest e =
+      let h = list-read s.region s.has_at put_last (λ x. x) (λ x. same s.region s.has_at x ∷ []) spell.comma (eat s m.Comma) (part left inner s)
+      (λ us mid x f. record { item = x; is = refl; read = on-same s f nothing }) (mark-separates s m.Comma refl) found ts xs rest e in
+      record { head = h.head; tail = h.tail; are = h.are ∙ puts-same found (h.head ∷ h.tail); read = h.read }
 
   -- ---- names, parentheses, angle brackets
 
@@ -196,17 +218,15 @@ module _ (left : ℕ) (inner : ChainReader) (law : OneRightTree) (good : Good in
       let h = full (length (next (next ts))) s (next (next ts)) us c.0 (le (length (next (next ts)))) (λ i. (c.0, (ap (λ p. p.1) is) i)) in
       (subst (λ l. ChainRead s true ts us l) (ap (λ p. p.0) is) (with-member s ts us c.0 at sign-at h.0), h.1)
 
-  whole-sees : (s : Setting) (k : Mark) (c : Chain) (xs : List Piece) (us : Tokens) → c ≡ (xs, Ok us) → is_whole s k c ≡ true → sees s k us ≡ true
-  whole-sees s k c xs us is w = (and_parts (sees s k us) _ (subst (λ d. is_whole s k d ≡ true) is w)).0
-
   member-brace : (s : Setting) (ts rest : Tokens) (n : Node) → Stands s.region m.OpenBrace ts → Stands s.region m.Name (next ts) → Stands s.region m.Belongs (next (next ts))
       → rule.member_brace left inner s (here ts) (next ts) ≡ Ok (n, rest) → Derives s.region s.has_at ts rest n
   unfolding rule.member_brace rule.filter set-chain
-  member-brace s ts rest n at name-at sign-at e = let c = set-chain s (next ts) in by-test {b = is_whole s m.Colon c} e
-      (λ whole e1. got e1 (λ set mid e2 f2. got f2 (λ condition t3 e3 f3. eaten (within around.Colon s) stop.Expression m.CloseBrace _ refl f3 (λ close f4.
-      derived f4 (spell.filter (spelling (first (next ts)).tok) set condition (here (next ts)))
+  member-brace s ts rest n at name-at sign-at e = let c = set-chain s (next ts) in by-test {b = ends_at s m.Colon c} e
+      (λ _ e1. got {o = rule.finished c} e1 (λ set mid e2 f2. eaten s stop.Expression m.Colon _ refl f2 (λ colon f3. got {o = part left inner (within around.Colon s) (next mid)} f3 (λ condition t3 e3 f4.
+      eaten (within around.Colon s) stop.Expression m.CloseBrace _ refl f4 (λ close f5.
+      derived f5 (spell.filter (spelling (first (next ts)).tok) set condition (here (next ts)))
       (on-sign at (on-word name-at (on-sign sign-at (on-finished law s c (le s.region) e2 (λ xs us is. full _ s _ us xs (le _) is)
-      (on-sign (stands s m.Colon mid refl (whole-sees s m.Colon c c.0 mid (finish c set mid e2).chain whole)) (on-same (within around.Colon s) e3 (on-sign close nothing)))))))))))
+      (on-sign colon (on-same (within around.Colon s) e3 (on-sign close nothing))))))))))))
       (λ _ e1. got e1 (λ x mid e2 f2. brace-end s ts mid rest n x at (on-finished law s _ (le s.region) e2 (member-chain s (next ts) name-at sign-at) nothing) f2))
 
   tuple-in : (s : Setting) (ts mid rest : Tokens) (n a : Node) → Stands s.region m.OpenBrace ts → Read s.region s.has_at (next ts) mid (spell.operand a ∷ [])
@@ -255,45 +275,32 @@ module _ (left : ℕ) (inner : ChainReader) (law : OneRightTree) (good : Good in
 
   -- ---- square brackets
 
-  record Fielded (s : Setting) (k : Mark) (found f : Fields) (ts rest : Tokens) : Type 0 where
+  field-of : (s : Setting) (k : Mark) → is_final k ≡ false → (ts mid : Tokens) (f : Decl × Node) → rule.field_of left inner s k ts ≡ Ok (f, mid)
+      → ItemRead s.region s.has_at (λ f. f) (spell.field s.region s.has_at k) f ts mid
+  unfolding rule.field_of
+  field-of s k kept ts mid f e = got {o = declared s stop.Other ts} e (λ d t1 e1 f1. eaten s stop.Other k _ kept f1 (λ at f2. got {o = part left inner s (next t1)} f2 (λ x t3 e3 f3. let z = same-end (d, x) f t3 mid f3 in
+      record { item = (d, x); is = sym z.0; read = on-declared s stop.Other e1 (on-sign at (on-same s e3 (up-to z.1 nothing))) })))
+
+  record Fielded (s : Setting) (k : Mark) (f : Fields) (ts rest : Tokens) : Type 0 where
     pub head : Decl × Node
     pub tail : List (Decl × Node)
-    pub names : f.names ≡ found.names ++ spell.names_of (head ∷ tail)
-    pub parts : f.parts ≡ found.parts ++ spell.parts_of (head ∷ tail)
+    pub are : f ≡ record { names = spell.names_of (head ∷ tail); parts = spell.parts_of (head ∷ tail) }
     pub read : Read s.region s.has_at ts rest (spell.fields s.region s.has_at k head tail)
 
-  fields-from : (n : ℕ) (s : Setting) (k : Mark) (found : Fields) (ts : Tokens) (f : Fields) (rest : Tokens) → is_outside k ≡ false → rule.fields_from left inner n s k found ts ≡ Ok (f, rest) → Fielded s k found f ts rest
-  unfolding rule.fields_from
-  fields-from zero s k found ts f rest kept e = refused e
-  fields-from (suc n) s k found ts f rest kept e = got {o = declared s stop.Other ts} e (λ d t1 e1 f1. eaten s stop.Other k _ kept f1 (λ at f2. got f2 (λ x t3 e3 f3. by-reader _ _ f3
-      (λ comma f4. let h = fields-from n s k (with_field found d x) _ f rest kept f4 in record {
-        head = (d, x);
-        tail = h.head ∷ h.tail;
-        names = h.names ∙ append_assoc found.names (d.name ∷ []) (spell.names_of (h.head ∷ h.tail));
-        parts = h.parts ∙ append_assoc found.parts (rule.node (form.Name d.name) [] d.place ∷ x ∷ []) (spell.parts_of (h.head ∷ h.tail));
-        read = on-declared s _ e1 (on-sign at (on-same s e3 (on-eat s refl comma h.read)));
-      })
-      (λ none f4. let z = same-end _ _ _ _ f4 in record {
-        head = (d, x);
-        tail = [];
-        names = ap (λ g. g.names) (sym z.0);
-        parts = ap (λ g. g.parts) (sym z.0);
-        read = on-declared s _ e1 (on-sign at (on-same s e3 (on-no s _ none (up-to z.1 nothing))));
-      }))))
-
-  fields : (s : Setting) (k : Mark) (ts : Tokens) (f : Fields) (rest : Tokens) → is_outside k ≡ false → rule.fields left inner s k ts ≡ Ok (f, rest) → Fielded s k rule.no_fields f ts rest
-  unfolding rule.fields
-  fields s k ts f rest kept e = fields-from (length ts) s k rule.no_fields ts f rest kept e
+  fields : (s : Setting) (k : Mark) (ts : Tokens) (f : Fields) (rest : Tokens) → is_final k ≡ false → rule.fields left inner s k ts ≡ Ok (f, rest) → Fielded s k f ts rest
+  fields s k ts f rest kept e =
+      let h = list-read s.region s.has_at with_field (λ f. f) (spell.field s.region s.has_at k) spell.comma (eat s m.Comma) (rule.field_of left inner s k) (field-of s k kept) (mark-separates s m.Comma refl) rule.no_fields ts f rest e in
+      record { head = h.head; tail = h.tail; are = h.are ∙ puts-fields rule.no_fields (h.head ∷ h.tail); read = h.read }
 
   record-of : (s : Setting) (ts rest : Tokens) (n : Node) → Stands s.region m.OpenSquare ts → rule.record_of left inner s (here ts) (next ts) ≡ Ok (n, rest) → Derives s.region s.has_at ts rest n
   unfolding rule.record_of
   record-of s ts rest n at e = got e (λ f mid e1 f1. let h = fields s m.Maps (next ts) f mid refl e1 in eaten s stop.Expression m.CloseSquare _ refl f1 (λ close f2.
-      derived-as f2 (λ i. rule.node (form.Record (h.names i)) (h.parts i) (here ts)) (spell.records h.head h.tail (here ts)) (on-sign-at at (both h.read (on-sign close nothing)))))
+      derived-as f2 (ap (λ g. rule.node (form.Record g.names) g.parts (here ts)) h.are) (spell.records h.head h.tail (here ts)) (on-sign-at at (both h.read (on-sign close nothing)))))
 
   record-set : (s : Setting) (ts rest : Tokens) (n : Node) → Stands s.region m.OpenSquare ts → rule.record_set left inner s (here ts) (next ts) ≡ Ok (n, rest) → Derives s.region s.has_at ts rest n
   unfolding rule.record_set
   record-set s ts rest n at e = got e (λ f mid e1 f1. let h = fields s m.Colon (next ts) f mid refl e1 in eaten s stop.Expression m.CloseSquare _ refl f1 (λ close f2.
-      derived-as f2 (λ i. rule.node (form.RecordSet (h.names i)) (h.parts i) (here ts)) (spell.record_set h.head h.tail (here ts)) (on-sign-at at (both h.read (on-sign close nothing)))))
+      derived-as f2 (ap (λ g. rule.node (form.RecordSet g.names) g.parts (here ts)) h.are) (spell.record_set h.head h.tail (here ts)) (on-sign-at at (both h.read (on-sign close nothing)))))
 
   -- ---- paths and updates
 
@@ -319,73 +326,37 @@ module _ (left : ℕ) (inner : ChainReader) (law : OneRightTree) (good : Good in
       by-chain ([], Ok us) h f = refused f
       by-chain (ys, Err x) h f = refused f
 
-  record Keyed (s : Setting) (found ks : List Key) (ts rest : Tokens) : Type 0 where
+  record Keyed (s : Setting) (ks : List Key) (ts rest : Tokens) : Type 0 where
     pub head : Key
     pub tail : List Key
-    pub are : ks ≡ found ++ head ∷ tail
-    pub read : Read s.region s.has_at ts rest (spell.keys s.region s.has_at (head ∷ tail))
+    pub are : ks ≡ head ∷ tail
+    pub read : Read s.region s.has_at ts rest (spell.keys s.region s.has_at head tail)
 
-  keys-from : (n : ℕ) (s : Setting) (found : List Key) (ts : Tokens) (ks : List Key) (rest : Tokens) → rule.keys_from left inner n s found ts ≡ Ok (ks, rest) → Keyed s found ks ts rest
-  unfolding rule.keys_from
-  keys-from zero s found ts ks rest e = refused e
-  keys-from (suc n) s found ts ks rest e = got e (λ k mid e1 e2. by-test {b = sees s m.OpenSquare mid || sees s m.Dot mid} e2
-      (λ more e3. let h = keys-from n s (found ++ k ∷ []) mid ks rest e3 in record {
-        head = k;
-        tail = h.head ∷ h.tail;
-        are = h.are ∙ append_assoc found (k ∷ []) (h.head ∷ h.tail);
-        read = both (key-of s ts mid k e1) h.read;
-      })
-      (λ none e3. let z = same-end _ _ _ _ e3 in record { head = k; tail = []; are = sym z.0; read = both (key-of s ts mid k e1) (up-to z.1 nothing) }))
+  keys : (s : Setting) (ts : Tokens) (ks : List Key) (rest : Tokens) → rule.keys left inner s ts ≡ Ok (ks, rest) → Keyed s ks ts rest
+  keys s ts ks rest e =
+      let h = list-read s.region s.has_at put_last (λ k. k) (spell.key_symbols s.region s.has_at) [] (ask (begins_key s)) (rule.key_of left inner s)
+      (λ us mid k f. record { item = k; is = refl; read = key-of s us mid k f }) (ask-separates s.region s.has_at (begins_key s)) [] ts ks rest e in
+      record { head = h.head; tail = h.tail; are = h.are ∙ puts-same [] (h.head ∷ h.tail); read = h.read }
 
-  keys : (s : Setting) (ts : Tokens) (ks : List Key) (rest : Tokens) → rule.keys left inner s ts ≡ Ok (ks, rest) → Keyed s [] ks ts rest
-  unfolding rule.keys
-  keys s ts ks rest e = keys-from (length ts) s [] ts ks rest e
-
-  record Updated (s : Setting) (u : Path × Node) (ts rest : Tokens) : Type 0 where
-    pub update : spell.Update
-    pub path : u.0 ≡ roll-Path (record { keys = update.0 ∷ update.1 })
-    pub value : u.1 ≡ update.2
-    pub read : Read s.region s.has_at ts rest (spell.update s.region s.has_at update)
-
-  update : (s : Setting) (ts : Tokens) (u : Path × Node) (rest : Tokens) → rule.update left inner s ts ≡ Ok (u, rest) → Updated s u ts rest
+  update : (s : Setting) (ts mid : Tokens) (u : Path × Node) → rule.update left inner s ts ≡ Ok (u, mid) → ItemRead s.region s.has_at updated (spell.update s.region s.has_at) u ts mid
   unfolding rule.update
-  update s ts u rest e = eaten s stop.Other m.Bang _ refl e (λ bang f0. got f0 (λ ks t1 e1 f1. let h = keys s _ ks t1 e1 in eaten s stop.Other m.Equal _ refl f1 (λ equal f2. got f2 (λ x t3 e3 f3.
-      let z = same-end _ _ _ _ f3 in record {
-        update = (h.head, h.tail, x);
-        path = ap (λ p. p.0) (sym z.0) ∙ ap (λ l. roll-Path (record { keys = l })) h.are;
-        value = ap (λ p. p.1) (sym z.0);
+  update s ts mid u e = eaten s stop.Other m.Bang _ refl e (λ bang f0. got {o = rule.keys left inner s (next ts)} f0 (λ ks t1 e1 f1. let h = keys s (next ts) ks t1 e1 in eaten s stop.Other m.Equal _ refl f1 (λ equal f2.
+      got {o = part left inner (with_at s) (next t1)} f2 (λ x t3 e3 f3. let z = same-end (roll-Path (record { keys = ks }), x) u t3 mid f3 in record {
+        item = (h.head, h.tail, x);
+        is = sym z.0 ∙ ap (λ l. (roll-Path (record { keys = l }), x)) h.are;
         read = on-sign bang (both h.read (on-sign equal (on-part (with_at s) (le s.region) e3 (up-to z.1 nothing))));
       }))))
 
-  record Revised (s : Setting) (found us : Updates) (ts rest : Tokens) : Type 0 where
+  record Revised (s : Setting) (f : Node) (us : Updates) (ts rest : Tokens) : Type 0 where
     pub head : spell.Update
     pub tail : List spell.Update
-    pub paths : us.paths ≡ found.paths ++ spell.paths_of (head ∷ tail)
-    pub parts : us.parts ≡ found.parts ++ spell.values_of (head ∷ tail)
+    pub are : us ≡ record { paths = spell.paths_of (head ∷ tail); parts = f ∷ spell.values_of (head ∷ tail) }
     pub read : Read s.region s.has_at ts rest (spell.updates s.region s.has_at head tail)
 
-  updates-from : (n : ℕ) (s : Setting) (found : Updates) (ts : Tokens) (us : Updates) (rest : Tokens) → rule.updates_from left inner n s found ts ≡ Ok (us, rest) → Revised s found us ts rest
-  unfolding rule.updates_from
-  updates-from zero s found ts us rest e = refused e
-  updates-from (suc n) s found ts us rest e = got e (λ u mid e1 e2. let one = update s ts u mid e1 in by-reader _ _ e2
-      (λ comma e3. let h = updates-from n s (with_update found u.0 u.1) _ us rest e3 in record {
-        head = one.update;
-        tail = h.head ∷ h.tail;
-        paths = h.paths ∙ append_assoc found.paths (u.0 ∷ []) (spell.paths_of (h.head ∷ h.tail)) ∙ ap (λ p. found.paths ++ p ∷ spell.paths_of (h.head ∷ h.tail)) one.path;
-        parts = h.parts ∙ append_assoc found.parts (u.1 ∷ []) (spell.values_of (h.head ∷ h.tail)) ∙ ap (λ v. found.parts ++ v ∷ spell.values_of (h.head ∷ h.tail)) one.value;
-        read = both one.read (on-eat s refl comma h.read);
-      })
-      (λ none e3. let z = same-end _ _ _ _ e3 in record {
-        head = one.update;
-        tail = [];
-        paths = ap (λ w. w.paths) (sym z.0) ∙ ap (λ p. found.paths ++ p ∷ []) one.path;
-        parts = ap (λ w. w.parts) (sym z.0) ∙ ap (λ v. found.parts ++ v ∷ []) one.value;
-        read = up-to z.1 (none-after s _ none one.read);
-      }))
-
-  updates : (s : Setting) (f : Node) (ts : Tokens) (us : Updates) (rest : Tokens) → rule.updates left inner s f ts ≡ Ok (us, rest) → Revised s (rule.no_updates f) us ts rest
-  unfolding rule.updates
-  updates s f ts us rest e = updates-from (length ts) s (rule.no_updates f) ts us rest e
+  updates : (s : Setting) (f : Node) (ts : Tokens) (us : Updates) (rest : Tokens) → rule.updates left inner s f ts ≡ Ok (us, rest) → Revised s f us ts rest
+  updates s f ts us rest e =
+      let h = list-read s.region s.has_at with_update updated (spell.update s.region s.has_at) spell.comma (eat s m.Comma) (rule.update left inner s) (update s) (mark-separates s m.Comma refl) (rule.no_updates f) ts us rest e in
+      record { head = h.head; tail = h.tail; are = h.are ∙ puts-updates (rule.no_updates f) (h.head ∷ h.tail); read = h.read }
 
   square-end : (outer : Around) (s : Setting) (ts mid rest : Tokens) (n x : Node) → Stands s.region m.OpenSquare ts → Read s.region s.has_at (next ts) mid (same s.region s.has_at x ∷ [])
       → rule.square_end left inner outer s (here ts) x mid ≡ Ok (n, rest) → Derives s.region s.has_at ts rest n
@@ -398,18 +369,18 @@ module _ (left : ℕ) (inner : ChainReader) (law : OneRightTree) (good : Good in
       derived f4 (spell.function_set x y (here ts)) (on-sign-at at (both r (on-sign (stands s m.Arrow mid refl arrow) (on-same s e3 (on-sign close nothing))))))))
       (λ _ e2. by-test e2
       (λ word-seen e3. got e3 (λ us t4 e4 f4. let h = updates s x (next mid) us t4 e4 in eaten s stop.Expression m.CloseSquare _ refl f4 (λ close f5.
-      derived-as f5 (λ i. rule.node (form.Except (h.paths i)) (h.parts i) (here ts)) (spell.except x h.head h.tail (here ts))
+      derived-as f5 (ap (λ g. rule.node (form.Except g.paths) g.parts (here ts)) h.are) (spell.except x h.head h.tail (here ts))
       (on-sign-at at (both r (on-sign (stands s m.Except mid refl word-seen) (both h.read (on-sign close nothing))))))))
       (λ _ e3. refused e3)))
 
   member-square : (outer : Around) (s : Setting) (ts rest : Tokens) (n : Node) → Stands s.region m.OpenSquare ts → Stands s.region m.Name (next ts) → Stands s.region m.Belongs (next (next ts))
       → rule.member_square left inner outer s (here ts) (next ts) ≡ Ok (n, rest) → Derives s.region s.has_at ts rest n
   unfolding rule.member_square rule.function set-chain
-  member-square outer s ts rest n at name-at sign-at e = let c = set-chain s (next ts) in by-test {b = is_whole s m.Maps c} e
-      (λ whole e1. got e1 (λ set mid e2 f2. got f2 (λ x t3 e3 f3. eaten s stop.Expression m.CloseSquare _ refl f3 (λ close f4.
-      derived f4 (spell.function (spelling (first (next ts)).tok) set x (here (next ts)))
+  member-square outer s ts rest n at name-at sign-at e = let c = set-chain s (next ts) in by-test {b = ends_at s m.Maps c} e
+      (λ _ e1. got {o = rule.finished c} e1 (λ set mid e2 f2. eaten s stop.Expression m.Maps _ refl f2 (λ maps f3. got {o = part left inner s (next mid)} f3 (λ x t3 e3 f4. eaten s stop.Expression m.CloseSquare _ refl f4 (λ close f5.
+      derived f5 (spell.function (spelling (first (next ts)).tok) set x (here (next ts)))
       (on-sign at (on-word name-at (on-sign sign-at (on-finished law s c (le s.region) e2 (λ xs us is. full _ s _ us xs (le _) is)
-      (on-sign (stands s m.Maps mid refl (whole-sees s m.Maps c c.0 mid (finish c set mid e2).chain whole)) (on-same s e3 (on-sign close nothing)))))))))))
+      (on-sign maps (on-same s e3 (on-sign close nothing))))))))))))
       (λ _ e1. got e1 (λ x mid e2 f2. square-end outer s ts mid rest n x at (on-finished law s _ (le s.region) e2 (member-chain s (next ts) name-at sign-at) nothing) f2))
 
   square-name : (outer : Around) (s : Setting) (ts rest : Tokens) (n : Node) → Stands s.region m.OpenSquare ts → Stands s.region m.Name (next ts) → rule.square_name left inner outer s (here ts) (next ts) ≡ Ok (n, rest) → Derives s.region s.has_at ts rest n
@@ -427,88 +398,47 @@ module _ (left : ℕ) (inner : ChainReader) (law : OneRightTree) (good : Good in
 
   -- ---- bound names
 
-  -- Groups that were read, of which the first has these names before those that were read; with the `:` after them.
-  data Grouped (s : Setting) (gs : List Group) (found : List Decl) (out : List Group) (ts rest : Tokens) : Type 0 where
-    with_sets : (b : spell.Bound) (bs : List spell.Bound) → out ≡ gs ++ rule.group (found ++ b.0 ∷ b.1) (Some b.2) ∷ map spell.group_of bs
-        → Read s.region s.has_at ts rest (spell.bounds s.region s.has_at b bs ++ sign m.Colon ∷ []) → Grouped s gs found out ts rest
-    without_set : (d : Decl) (ds : List Decl) → gs ≡ [] → out ≡ rule.group (found ++ d ∷ ds) None ∷ []
-        → Read s.region s.has_at ts rest (spell.names d ds ++ sign m.Colon ∷ []) → Grouped s gs found out ts rest
+  bound-set : (s : Setting) (ns : List Decl) (ts : Tokens) (g : Group) (rest : Tokens) → rule.bound_set left inner s ns ts ≡ Ok (g, rest)
+      → (x : Node) × (g ≡ rule.group ns (Some x)) × Read s.region s.has_at ts rest (sign m.Belongs ∷ same s.region s.has_at x ∷ [])
+  unfolding rule.bound_set
+  bound-set s ns ts g rest e = eaten s stop.Other m.Belongs _ refl e (λ belongs f1. got {o = part left inner s (next ts)} f1 (λ x t2 e2 f2. let z = same-end (rule.group ns (Some x)) g t2 rest f2 in
+      (x, sym z.0, on-sign belongs (on-same s e2 (up-to z.1 nothing)))))
 
-  -- one more name before
-  one-name : (s : Setting) (gs : List Group) (found : List Decl) (d : Decl) (out : List Group) (ts mid rest : Tokens) → Read s.region s.has_at ts mid (spell.declared d ∷ sign m.Comma ∷ [])
-      → Grouped s gs (found ++ d ∷ []) out mid rest → Grouped s gs found out ts rest
-  one-name s gs found d out ts mid rest before (with_sets b [] is r) =
-      with_sets (d, b.0 ∷ b.1, b.2) [] (is ∙ ap (λ l. gs ++ rule.group l (Some b.2) ∷ []) (append_assoc found (d ∷ []) (b.0 ∷ b.1))) (both before r)
-  one-name s gs found d out ts mid rest before (with_sets b (c ∷ cs) is r) =
-      with_sets (d, b.0 ∷ b.1, b.2) (c ∷ cs) (is ∙ ap (λ l. gs ++ rule.group l (Some b.2) ∷ map spell.group_of (c ∷ cs)) (append_assoc found (d ∷ []) (b.0 ∷ b.1))) (both before r)
-  one-name s gs found d out ts mid rest before (without_set c cs none is r) =
-      without_set d (c ∷ cs) none (is ∙ ap (λ l. rule.group l None ∷ []) (append_assoc found (d ∷ []) (c ∷ cs))) (both before r)
+  -- names and the set after them
+  with-set : (s : Setting) (ns : List Decl) (ts t1 : Tokens) (g : Group) (rest : Tokens) → Named s ns ts t1 → rule.bound_set left inner s ns t1 ≡ Ok (g, rest)
+      → ItemRead s.region s.has_at spell.group_of (spell.bound s.region s.has_at) g ts rest
+  with-set s ns ts t1 g rest h e = let b = bound-set s ns t1 g rest e in
+      record { item = (h.head, h.tail, b.0); is = b.1 ∙ ap (λ l. rule.group l (Some b.0)) h.are; read = both h.read b.2 }
 
-  -- one more group before
-  one-group : (s : Setting) (gs : List Group) (found : List Decl) (d : Decl) (x : Node) (out : List Group) (ts mid rest : Tokens)
-      → Read s.region s.has_at ts mid (spell.declared d ∷ sign m.Belongs ∷ same s.region s.has_at x ∷ sign m.Comma ∷ [])
-      → Grouped s (gs ++ rule.group (found ++ d ∷ []) (Some x) ∷ []) [] out mid rest → Grouped s gs found out ts rest
-  one-group s gs found d x out ts mid rest before (with_sets b bs is r) =
-      with_sets (d, [], x) (b ∷ bs) (is ∙ append_assoc gs (rule.group (found ++ d ∷ []) (Some x) ∷ []) (map spell.group_of (b ∷ bs))) (both before r)
-  one-group s gs found d x out ts mid rest before (without_set c cs none is r) = absurd (not-nil gs (rule.group (found ++ d ∷ []) (Some x)) none)
+  bound : (s : Setting) (ts mid : Tokens) (g : Group) → rule.bound left inner s ts ≡ Ok (g, mid) → ItemRead s.region s.has_at spell.group_of (spell.bound s.region s.has_at) g ts mid
+  unfolding rule.bound
+  bound s ts mid g e = got {o = names s stop.Bound ts} e (λ ns t1 e1 f1. with-set s ns ts t1 g mid (names-read s stop.Bound ts ns t1 e1) f1)
 
-  -- what stands after a bound name
-  data Followed (s : Setting) (names : List Decl) (is_first : Bool) (ts mid : Tokens) : After → Type 0 where
-    a_name : Read s.region s.has_at ts mid (sign m.Comma ∷ []) → Followed s names is_first ts mid (after_bound.Name names)
-    a_group : (x : Node) → Read s.region s.has_at ts mid (sign m.Belongs ∷ same s.region s.has_at x ∷ sign m.Comma ∷ []) → Followed s names is_first ts mid (after_bound.Group (rule.group names (Some x)))
-    last_group : (x : Node) → Read s.region s.has_at ts mid (sign m.Belongs ∷ same s.region s.has_at x ∷ sign m.Colon ∷ []) → Followed s names is_first ts mid (after_bound.Last (rule.group names (Some x)))
-    last_free : is_first ≡ true → Read s.region s.has_at ts mid (sign m.Colon ∷ []) → Followed s names is_first ts mid (after_bound.Last (rule.group names None))
+  record Bounded (s : Setting) (gs : List Group) (ts rest : Tokens) : Type 0 where
+    pub head : spell.Bound
+    pub tail : List spell.Bound
+    pub are : gs ≡ map spell.group_of (head ∷ tail)
+    pub read : Read s.region s.has_at ts rest (spell.bounds s.region s.has_at head tail)
 
-  followed : (s : Setting) (names : List Decl) (is_first : Bool) (ts mid us : Tokens) (a b : After) → (let x : Outcome After = Ok (a, us) in x) ≡ Ok (b, mid) → Followed s names is_first ts us a → Followed s names is_first ts mid b
-  followed s names is_first ts mid us a b e h = let z = same-end a b us mid e in subst (λ l. Followed s names is_first ts l b) z.1 (subst (λ x. Followed s names is_first ts us x) z.0 h)
-
-  after-name : (s : Setting) (names : List Decl) (is_first : Bool) (ts : Tokens) (a : After) (mid : Tokens) → rule.after_name left inner s names is_first ts ≡ Ok (a, mid) → Followed s names is_first ts mid a
-  unfolding rule.after_name rule.bound_set rule.after_set
-  after-name s names is_first ts a mid e = by-test {b = sees s m.Comma ts} e (λ comma e1. followed s names is_first ts mid _ _ a e1 (a_name (on-sign (stands s m.Comma ts refl comma) nothing)))
-      (λ _ e1. by-test {b = sees s m.Belongs ts} e1
-      (λ belongs e2. got {o = and_then (part left inner s (next ts)) (λ x us. Ok (rule.group names (Some x), us))} e2 (λ g t3 e3 f3. got {o = part left inner s (next ts)} e3 (λ x t4 e4 f4. let z = same-end _ g t4 t3 f4 in
-      let at : Stands s.region m.Belongs ts = stands s m.Belongs ts refl belongs in by-test {b = sees s m.Comma t3} f3
-      (λ comma f5. followed s names is_first ts mid _ _ a f5 (subst (λ y. Followed s names is_first ts (next t3) (after_bound.Group y)) z.0
-      (a_group x (on-sign at (on-same s e4 (up-from z.1 (on-sign (stands s m.Comma t3 refl comma) nothing)))))))
-      (λ _ f5. by-test {b = sees s m.Colon t3} f5
-      (λ colon f6. followed s names is_first ts mid _ _ a f6 (subst (λ y. Followed s names is_first ts (next t3) (after_bound.Last y)) z.0
-      (last_group x (on-sign at (on-same s e4 (up-from z.1 (on-sign (stands s m.Colon t3 refl colon) nothing)))))))
-      (λ _ f6. refused f6)))))
-      (λ _ e2. by-test {b = sees s m.Colon ts && is_first} e2
-      (λ last e3. followed s names is_first ts mid _ _ a e3 (last_free (and_parts (sees s m.Colon ts) is_first last).1 (on-sign (stands s m.Colon ts refl (and_parts _ is_first last).0) nothing)))
-      (λ _ e3. refused e3)))
-
-  by-followed : (n : ℕ) (s : Setting) (gs : List Group) (found : List Decl) (d : Decl) (ts t2 mid : Tokens) (out : List Group) (rest : Tokens) (a : After)
-      → ((hs : List Group) (names : List Decl) (us : Tokens) (o : List Group) (r : Tokens) → rule.groups_from left inner n s hs names us ≡ Ok (o, r) → Grouped s hs names o us r)
-      → ((l : Tokens) (ys : Symbols) → Read s.region s.has_at t2 l ys → Read s.region s.has_at ts l (spell.declared d ∷ ys))
-      → Followed s (found ++ d ∷ []) (nat_eq (length gs) 0) t2 mid a → rule.go_on (rule.groups_from left inner n s) gs a mid ≡ Ok (out, rest) → Grouped s gs found out ts rest
-  by-followed n s gs found d ts t2 mid out rest _ more before (a_name r) e = one-name s gs found d out ts mid rest (before _ _ r) (more gs (found ++ d ∷ []) mid out rest e)
-  by-followed n s gs found d ts t2 mid out rest _ more before (a_group x r) e = one-group s gs found d x out ts mid rest (before _ _ r) (more (gs ++ rule.group (found ++ d ∷ []) (Some x) ∷ []) [] mid out rest e)
-  by-followed n s gs found d ts t2 mid out rest _ more before (last_group x r) e = let z = same-end _ out mid rest e in with_sets (d, [], x) [] (sym z.0) (up-to z.1 (before _ _ r))
-  by-followed n s gs found d ts t2 mid out rest _ more before (last_free is r) e = let z = same-end _ out mid rest e in let none = empty gs is in
-      without_set d [] none (sym z.0 ∙ ap (λ l. l ++ rule.group (found ++ d ∷ []) None ∷ []) none) (up-to z.1 (before _ _ r))
-
-  groups-from : (n : ℕ) (s : Setting) (gs : List Group) (found : List Decl) (ts : Tokens) (out : List Group) (rest : Tokens) → rule.groups_from left inner n s gs found ts ≡ Ok (out, rest) → Grouped s gs found out ts rest
-  unfolding rule.groups_from
-  groups-from zero s gs found ts out rest e = refused e
-  groups-from (suc n) s gs found ts out rest e = got {o = and_then (declared s stop.Bound ts) (λ d us. rule.after_name left inner s (found ++ d ∷ []) (nat_eq (length gs) 0) us)} e (λ a mid e1 f1.
-      got {o = declared s stop.Bound ts} e1 (λ d t2 e2 f2. by-followed n s gs found d ts t2 mid out rest a (groups-from n s) (λ l ys r. on-declared s stop.Bound e2 r)
-      (after-name s (found ++ d ∷ []) (nat_eq (length gs) 0) t2 a mid f2) f1))
-
-  groups : (s : Setting) (ts : Tokens) (out : List Group) (rest : Tokens) → rule.groups left inner s ts ≡ Ok (out, rest) → Grouped s [] [] out ts rest
-  unfolding rule.groups
-  groups s ts out rest e = groups-from (length ts) s [] [] ts out rest e
+  bounds : (s : Setting) (ns : List Decl) (ts t1 : Tokens) (gs : List Group) (rest : Tokens) → Named s ns ts t1 → rule.bounds left inner s ns t1 ≡ Ok (gs, rest) → Bounded s gs ts rest
+  unfolding rule.bounds
+  bounds s ns ts t1 gs rest h e = got {o = rule.bound_set left inner s ns t1} e (λ g t2 e2 f2. let one = with-set s ns ts t1 g t2 h e2 in by-reader {b = sees s m.Comma t2} (rule.further_bounds left inner s (g ∷ [])) _ f2
+      (λ comma f3. let z = list-read s.region s.has_at put_last spell.group_of (spell.bound s.region s.has_at) spell.comma (eat s m.Comma) (rule.bound left inner s) (bound s) (mark-separates s m.Comma refl)
+      (g ∷ []) (after s m.Comma t2) gs rest f3 in
+      record { head = one.item; tail = z.head ∷ z.tail; are = z.are ∙ puts-last spell.group_of (g ∷ []) (z.head ∷ z.tail) ∙ ap (λ q. q ∷ map spell.group_of (z.head ∷ z.tail)) one.is; read = both one.read (on-eat s refl comma z.read) })
+      (λ none f3. let z = same-end (g ∷ []) gs (after s m.Comma t2) rest f3 in
+      record { head = one.item; tail = []; are = sym z.0 ∙ ap (λ q. q ∷ []) one.is; read = up-to (sym (after-no s m.Comma t2 none) ∙ z.1) one.read }))
 
   quantifier : (all : Bool) (s : Setting) (ts rest : Tokens) (n : Node) → Stands s.region (spell.quantifier_mark all) ts → rule.quantifier left inner all s ts ≡ Ok (n, rest) → Derives s.region s.has_at ts rest n
-  unfolding rule.quantifier
-  quantifier all s ts rest n at e = got e (λ gs t1 e1 f1. got f1 (λ body t2 e2 f2. by-groups gs t1 body t2 (groups s (next ts) gs t1 e1) (on-same s e2 nothing) f2))
-    where
-      by-groups : (gs : List Group) (t1 : Tokens) (body : Node) (t2 : Tokens) → Grouped s [] [] gs (next ts) t1 → Read s.region s.has_at t1 t2 (same s.region s.has_at body ∷ [])
-          → (let x : Outcome Node = Ok (rule.node (form.Quant all gs) (body ∷ []) (here ts), t2) in x) ≡ Ok (n, rest) → Derives s.region s.has_at ts rest n
-      by-groups gs t1 body t2 (with_sets b bs is r) last f = derived-as f (ap (λ l. rule.node (form.Quant all l) (body ∷ []) (here ts)) is) (spell.bounded all b bs body (here ts))
-          (on-sign-at at (behind-sign (spell.bounds s.region s.has_at b bs) (sign m.Colon) r last))
-      by-groups gs t1 body t2 (without_set d ds none is r) last f = derived-as f (ap (λ l. rule.node (form.Quant all l) (body ∷ []) (here ts)) is) (spell.unbounded all d ds body (here ts))
-          (on-sign-at at (behind-sign (spell.names d ds) (sign m.Colon) r last))
+  unfolding rule.quantifier rule.groups_of
+  quantifier all s ts rest n at e = got {o = names s stop.Bound (next ts)} e (λ ns t1 e1 f1. let h = names-read s stop.Bound (next ts) ns t1 e1 in got {o = rule.groups_of left inner s ns t1} f1 (λ gs t2 e2 f2.
+      eaten s stop.Expression m.Colon _ refl f2 (λ colon f3. got {o = part left inner s (next t2)} f3 (λ body t4 e4 f4. by-test {b = sees s m.Colon t1} e2
+      (λ _ f5. let z = same-end (rule.group ns None ∷ []) gs t1 t2 f5 in
+      derived-as f4 (ap (λ l. rule.node (form.Quant all l) (body ∷ []) (here ts)) (sym z.0 ∙ ap (λ l. rule.group l None ∷ []) h.are)) (spell.unbounded all h.head h.tail body (here ts))
+      (on-sign-at at (both h.read (up-from z.1 (on-sign colon (on-same s e4 nothing))))))
+      (λ _ f5. let b = bounds s ns (next ts) t1 gs t2 h f5 in
+      derived-as f4 (ap (λ l. rule.node (form.Quant all l) (body ∷ []) (here ts)) b.are) (spell.bounded all b.head b.tail body (here ts))
+      (on-sign-at at (both b.read (on-sign colon (on-same s e4 nothing)))))))))
 
   record Domained (s : Setting) (set : Option Node) (ts rest : Tokens) : Type 0 where
     pub read : Read s.region s.has_at ts rest (spell.set_of s.region s.has_at set ++ sign m.Colon ∷ [])
@@ -535,77 +465,41 @@ module _ (left : ℕ) (inner : ChainReader) (law : OneRightTree) (good : Good in
 
   -- ---- CASE
 
-  arm : (s : Setting) (ts : Tokens) (a : spell.Arm) (rest : Tokens) → rule.arm left inner s ts ≡ Ok (a, rest) → Read s.region s.has_at ts rest (spell.arm s.region s.has_at a)
+  arm : (s : Setting) (ts mid : Tokens) (a : spell.Arm) → rule.arm left inner s ts ≡ Ok (a, mid) → ItemRead s.region s.has_at (λ a. a) (spell.arm s.region s.has_at) a ts mid
   unfolding rule.arm
-  arm s ts a rest e = got e (λ x t1 e1 f1. eaten s stop.Expression m.Arrow _ refl f1 (λ arrow f2. got {o = part left inner s (next t1)} f2 (λ y t3 e3 f3. let z = same-end (x, y) a t3 rest f3 in
-      subst (λ b. Read s.region s.has_at ts rest (spell.arm s.region s.has_at b)) z.0 (on-same s e1 (on-sign arrow (on-same s e3 (up-to z.1 nothing)))))))
+  arm s ts mid a e = got {o = part left inner s ts} e (λ x t1 e1 f1. eaten s stop.Expression m.Arrow _ refl f1 (λ arrow f2. got {o = part left inner s (next t1)} f2 (λ y t3 e3 f3. let z = same-end (x, y) a t3 mid f3 in
+      record { item = (x, y); is = sym z.0; read = on-same s e1 (on-sign arrow (on-same s e3 (up-to z.1 nothing))) })))
 
-  -- arms that were read, behind these parts
-  data Armed (s : Setting) (found : List Node) (out : Arms) (ts rest : Tokens) : Type 0 where
-    plain_arms : (a : spell.Arm) (more : List spell.Arm) → out ≡ record { parts = found ++ spell.arm_parts (a ∷ more); other = false }
-        → Read s.region s.has_at ts rest (spell.arms s.region s.has_at a more) → Armed s found out ts rest
-    with_other : (a : spell.Arm) (more : List spell.Arm) (x : Node) → out ≡ record { parts = found ++ (spell.arm_parts (a ∷ more) ++ x ∷ []); other = true }
-        → Read s.region s.has_at ts rest (spell.arms s.region s.has_at a more ++ sign m.Always ∷ sign m.Other ∷ sign m.Arrow ∷ same s.region s.has_at x ∷ []) → Armed s found out ts rest
+  arm-separates : (s : Setting) → Separates s.region s.has_at (sign m.Always ∷ []) (further_arm s)
+  arm-separates s ts mid more e = by-test {b = sees_second s m.Other ts} e
+      (λ _ f. let z = same-end false more ts mid f in (λ yes. absurd (false≢true (z.0 ∙ yes)), λ _. z.1))
+      (λ _ f. mark-separates s m.Always refl ts mid more f)
 
-  one-arm : (s : Setting) (found : List Node) (a : spell.Arm) (out : Arms) (ts mid rest : Tokens) → Read s.region s.has_at ts mid (spell.arm s.region s.has_at a ++ sign m.Always ∷ [])
-      → Armed s (found ++ a.0 ∷ a.1 ∷ []) out mid rest → Armed s found out ts rest
-  one-arm s found a out ts mid rest before (plain_arms b bs is r) =
-      plain_arms a (b ∷ bs) (is ∙ ap (λ l. record { parts = l; other = false }) (append_assoc found (a.0 ∷ a.1 ∷ []) (spell.arm_parts (b ∷ bs)))) (both before r)
-  one-arm s found a out ts mid rest before (with_other b bs x is r) =
-      with_other a (b ∷ bs) x (is ∙ ap (λ l. record { parts = l; other = true }) (append_assoc found (a.0 ∷ a.1 ∷ []) (spell.arm_parts (b ∷ bs) ++ x ∷ []))) (both before r)
+  record Armed (s : Setting) (parts : List Node) (ts rest : Tokens) : Type 0 where
+    pub head : spell.Arm
+    pub tail : List spell.Arm
+    pub are : parts ≡ spell.arm_parts (head ∷ tail)
+    pub read : Read s.region s.has_at ts rest (spell.arms s.region s.has_at head tail)
 
-  arms-from : (n : ℕ) (s : Setting) (found : List Node) (ts : Tokens) (out : Arms) (rest : Tokens) → rule.arms_from left inner n s found ts ≡ Ok (out, rest) → Armed s found out ts rest
-  unfolding rule.arms_from rule.other_arm
-  arms-from zero s found ts out rest e = refused e
-  arms-from (suc n) s found ts out rest e = got {o = rule.arm left inner s ts} e (λ a t1 e1 f1. let one = arm s ts a t1 e1 in by-reader {b = sees s m.Always t1} _ _ f1
-      (λ always f2. by-reader {b = sees s m.Other (after s m.Always t1)} _ _ f2
-      (λ other f3. eaten s stop.Other m.Arrow _ refl f3 (λ arrow f4. got {o = part left inner s (next (after s m.Other (after s m.Always t1)))} f4 (λ x t5 e5 f5. let z = same-end _ out t5 rest f5 in
-      with_other a [] x (sym z.0 ∙ ap (λ l. record { parts = l; other = true }) (append_assoc found (a.0 ∷ a.1 ∷ []) (x ∷ [])))
-      (both one (on-eat s refl always (on-eat s refl other (on-sign arrow (on-same s e5 (up-to z.1 nothing)))))))))
-      (λ plain-arm f3. one-arm s found a out ts _ rest (both one (on-eat s refl always nothing)) (arms-from n s (found ++ a.0 ∷ a.1 ∷ []) (after s m.Always t1) out rest
-      (subst (λ l. rule.arms_from left inner n s (found ++ a.0 ∷ a.1 ∷ []) l ≡ Ok (out, rest)) (after-no s m.Other (after s m.Always t1) plain-arm) f3))))
-      (λ none f2. let z = same-end _ out _ rest f2 in plain_arms a [] (sym z.0) (up-to z.1 (none-after s _ none one))))
-
-  arms : (s : Setting) (ts : Tokens) (out : Arms) (rest : Tokens) → rule.arms left inner s ts ≡ Ok (out, rest) → Armed s [] out ts rest
-  unfolding rule.arms
-  arms s ts out rest e = arms-from (length ts) s [] ts out rest e
+  arms : (s : Setting) (ts : Tokens) (parts : List Node) (rest : Tokens) → rule.arms left inner s ts ≡ Ok (parts, rest) → Armed s parts ts rest
+  arms s ts parts rest e =
+      let h = list-read s.region s.has_at with_arm (λ a. a) (spell.arm s.region s.has_at) (sign m.Always ∷ []) (further_arm s) (rule.arm left inner s) (arm s) (arm-separates s) [] ts parts rest e in
+      record { head = h.head; tail = h.tail; are = h.are ∙ puts-arms [] (h.head ∷ h.tail); read = h.read }
 
   cases : (s : Setting) (ts rest : Tokens) (n : Node) → Stands s.region m.Case ts → rule.cases left inner s ts ≡ Ok (n, rest) → Derives s.region s.has_at ts rest n
-  unfolding rule.cases
-  cases s ts rest n at e = got {o = rule.arms left inner s (next ts)} e (λ a t1 e1 f1. by-arms a t1 (arms s (next ts) a t1 e1) f1)
-    where
-      by-arms : (a : Arms) (t1 : Tokens) → Armed s [] a (next ts) t1 → (let x : Outcome Node = Ok (rule.node (form.Case a.other) a.parts (here ts), t1) in x) ≡ Ok (n, rest) → Derives s.region s.has_at ts rest n
-      by-arms a t1 (plain_arms b bs is r) f = derived-as f (ap (λ q. rule.node (form.Case q.other) q.parts (here ts)) is) (spell.cases b bs (here ts)) (on-sign-at at r)
-      by-arms a t1 (with_other b bs x is r) f = derived-as f (ap (λ q. rule.node (form.Case q.other) q.parts (here ts)) is) (spell.cases_with_other b bs x (here ts)) (on-sign-at at r)
+  unfolding rule.cases rule.case_end rule.other_arm
+  cases s ts rest n at e = got {o = rule.arms left inner s (next ts)} e (λ parts t1 e1 f1. let h = arms s (next ts) parts t1 e1 in by-test {b = sees s m.Always t1} f1
+      (λ always f2. got {o = rule.other_arm left inner s (next t1)} f2 (λ x t2 e2 f3. eaten s stop.Other m.Other _ refl e2 (λ other f4. eaten s stop.Other m.Arrow _ refl f4 (λ arrow f5.
+      derived-as f3 (ap (λ l. rule.node (form.Case true) (l ++ x ∷ []) (here ts)) h.are) (spell.cases_with_other h.head h.tail x (here ts))
+      (on-sign-at at (both h.read (on-sign (stands s m.Always t1 refl always) (on-sign other (on-sign arrow (on-same s f5 nothing))))))))))
+      (λ _ f2. derived-as f2 (ap (λ l. rule.node (form.Case false) l (here ts)) h.are) (spell.cases h.head h.tail (here ts)) (on-sign-at at h.read)))
 
   -- ---- LET
-
-  record Parametered (s : Setting) (found ds : List Decl) (ts rest : Tokens) : Type 0 where
-    pub head : Decl
-    pub tail : List Decl
-    pub are : ds ≡ found ++ head ∷ tail
-    pub read : Read s.region s.has_at ts rest (spell.names head tail)
-
-  parameters-from : (n : ℕ) (s : Setting) (found : List Decl) (ts : Tokens) (ds : List Decl) (rest : Tokens) → rule.parameters_from n s found ts ≡ Ok (ds, rest) → Parametered s found ds ts rest
-  unfolding rule.parameters_from
-  parameters-from zero s found ts ds rest e = refused e
-  parameters-from (suc n) s found ts ds rest e = got {o = declared s stop.Other ts} e (λ d t1 e1 f1. by-reader {b = sees s m.Comma t1} _ _ f1
-      (λ comma f2. let h = parameters-from n s (found ++ d ∷ []) _ ds rest f2 in record {
-        head = d;
-        tail = h.head ∷ h.tail;
-        are = h.are ∙ append_assoc found (d ∷ []) (h.head ∷ h.tail);
-        read = on-declared s stop.Other e1 (on-eat s refl comma h.read);
-      })
-      (λ none f2. let z = same-end _ ds _ rest f2 in record { head = d; tail = []; are = sym z.0; read = on-declared s stop.Other e1 (on-no s _ none (up-to z.1 nothing)) }))
-
-  parameter-list : (s : Setting) (ts : Tokens) (ds : List Decl) (rest : Tokens) → rule.parameter_list s ts ≡ Ok (ds, rest) → Parametered s [] ds ts rest
-  unfolding rule.parameter_list
-  parameter-list s ts ds rest e = parameters-from (length ts) s [] ts ds rest e
 
   parameters : (s : Setting) (ts : Tokens) (ds : List Decl) (rest : Tokens) → Stands s.region m.OpenParen ts → rule.parameters left inner s ts ≡ Ok (ds, rest)
       → Read s.region s.has_at ts rest (spell.parameters ds)
   unfolding rule.parameters
-  parameters s ts ds rest at e = begun left _ _ e (λ f0. got {o = rule.parameter_list (within around.Other s) (next ts)} f0 (λ xs t1 e1 f1. let h = parameter-list (within around.Other s) (next ts) xs t1 e1 in
+  parameters s ts ds rest at e = begun left _ _ e (λ f0. got {o = names (within around.Other s) stop.Other (next ts)} f0 (λ xs t1 e1 f1. let h = names-read (within around.Other s) stop.Other (next ts) xs t1 e1 in
       eaten (within around.Other s) stop.Parameter m.CloseParen _ refl f1 (λ close f2. let z = same-end xs ds _ rest f2 in
       subst (λ l. Read s.region s.has_at ts rest (spell.parameters l)) (sym h.are ∙ z.0) (on-sign at (both h.read (on-sign close (up-to z.1 nothing)))))))
 
@@ -617,52 +511,31 @@ module _ (left : ℕ) (inner : ChainReader) (law : OneRightTree) (good : Good in
       (λ _ e1. eaten s stop.Defined m.Defines _ refl e1 (λ defines f2. let z = same-end [] ds _ rest f2 in
       subst (λ l. Read s.region s.has_at ts rest (spell.parameters l ++ sign m.Defines ∷ [])) z.0 (on-sign defines (up-to z.1 nothing))))
 
-  record OneDefined (s : Setting) (d : Def) (ts rest : Tokens) : Type 0 where
-    pub def : spell.Definition
-    pub is : d ≡ spell.def_of def
-    pub read : Read s.region s.has_at ts rest (spell.definition s.region s.has_at def)
-
-  definition : (s : Setting) (ts : Tokens) (d : Def) (rest : Tokens) → rule.definition left inner s ts ≡ Ok (d, rest) → OneDefined s d ts rest
+  definition : (s : Setting) (ts mid : Tokens) (d : Def) → rule.definition left inner s ts ≡ Ok (d, mid) → ItemRead s.region s.has_at spell.def_of (spell.definition s.region s.has_at) d ts mid
   unfolding rule.definition
-  definition s ts d rest e = got {o = declared s stop.Other ts} e (λ x t1 e1 f1. got {o = rule.head left inner s t1} f1 (λ ds t2 e2 f2. got {o = part left inner s t2} f2 (λ body t3 e3 f3.
-      let z = same-end (roll-Def (record { name = x.name; params = ds; body = body; place = x.place })) d t3 rest f3 in record {
-        def = (x, ds, body);
+  definition s ts mid d e = got {o = declared s stop.Other ts} e (λ x t1 e1 f1. got {o = rule.head left inner s t1} f1 (λ ds t2 e2 f2. got {o = part left inner s t2} f2 (λ body t3 e3 f3.
+      let z = same-end (roll-Def (record { name = x.name; params = ds; body = body; place = x.place })) d t3 mid f3 in record {
+        item = (x, ds, body);
         is = sym z.0;
         read = on-declared s stop.Other e1 (behind-sign (spell.parameters ds) (sign m.Defines) (head s t1 ds t2 e2) (on-same s e3 (up-to z.1 nothing)));
       })))
 
-  record Defined (s : Setting) (found ds : List Def) (ts rest : Tokens) : Type 0 where
+  record Defined (s : Setting) (ds : List Def) (ts rest : Tokens) : Type 0 where
     pub head : spell.Definition
     pub tail : List spell.Definition
-    pub are : ds ≡ found ++ map spell.def_of (head ∷ tail)
-    pub read : Read s.region s.has_at ts rest (spell.definitions s.region s.has_at (head ∷ tail) ++ sign m.In ∷ [])
+    pub are : ds ≡ map spell.def_of (head ∷ tail)
+    pub read : Read s.region s.has_at ts rest (spell.definitions s.region s.has_at head tail)
 
-  definitions-from : (n : ℕ) (s : Setting) (found : List Def) (ts : Tokens) (ds : List Def) (rest : Tokens) → rule.definitions_from left inner n s found ts ≡ Ok (ds, rest) → Defined s found ds ts rest
-  unfolding rule.definitions_from
-  definitions-from zero s found ts ds rest e = refused e
-  definitions-from (suc n) s found ts ds rest e = got {o = rule.definition left inner s ts} e (λ d t1 e1 f1. let one = definition s ts d t1 e1 in by-test {b = sees s m.Name t1} f1
-      (λ more f2. let h = definitions-from n s (found ++ d ∷ []) t1 ds rest f2 in record {
-        head = one.def;
-        tail = h.head ∷ h.tail;
-        are = h.are ∙ append_assoc found (d ∷ []) (map spell.def_of (h.head ∷ h.tail)) ∙ ap (λ q. found ++ q ∷ map spell.def_of (h.head ∷ h.tail)) one.is;
-        read = in-front (sign m.In) (spell.definition s.region s.has_at one.def) (spell.definitions s.region s.has_at (h.head ∷ h.tail)) one.read h.read;
-      })
-      (λ none f2. eaten s stop.Expression m.In _ refl f2 (λ in-seen f3. let z = same-end _ ds _ rest f3 in record {
-        head = one.def;
-        tail = [];
-        are = sym z.0 ∙ ap (λ q. found ++ q ∷ []) one.is;
-        read = in-front (sign m.In) (spell.definition s.region s.has_at one.def) [] one.read (on-sign in-seen (up-to z.1 nothing));
-      })))
-
-  definitions : (s : Setting) (ts : Tokens) (ds : List Def) (rest : Tokens) → rule.definitions left inner s ts ≡ Ok (ds, rest) → Defined s [] ds ts rest
-  unfolding rule.definitions
-  definitions s ts ds rest e = definitions-from (length ts) s [] ts ds rest e
+  definitions : (s : Setting) (ts : Tokens) (ds : List Def) (rest : Tokens) → rule.definitions left inner s ts ≡ Ok (ds, rest) → Defined s ds ts rest
+  definitions s ts ds rest e =
+      let h = list-read s.region s.has_at put_last spell.def_of (spell.definition s.region s.has_at) [] (ask (sees s m.Name)) (rule.definition left inner s) (definition s)
+      (ask-separates s.region s.has_at (sees s m.Name)) [] ts ds rest e in
+      record { head = h.head; tail = h.tail; are = h.are ∙ puts-last spell.def_of [] (h.head ∷ h.tail); read = h.read }
 
   local : (s : Setting) (ts rest : Tokens) (n : Node) → Stands s.region m.Let ts → rule.local left inner s ts ≡ Ok (n, rest) → Derives s.region s.has_at ts rest n
   unfolding rule.local
-  local s ts rest n at e = got {o = rule.definitions left inner s (next ts)} e (λ ds t1 e1 f1. got f1 (λ body t2 e2 f2. let h = definitions s (next ts) ds t1 e1 in
-      derived-as f2 (ap (λ l. rule.node (form.Let l) (body ∷ []) (here ts)) h.are) (spell.local h.head h.tail body (here ts))
-      (on-sign-at at (behind-sign (spell.definitions s.region s.has_at (h.head ∷ h.tail)) (sign m.In) h.read (on-same s e2 nothing)))))
+  local s ts rest n at e = got {o = rule.definitions left inner s (next ts)} e (λ ds t1 e1 f1. let h = definitions s (next ts) ds t1 e1 in eaten s stop.Expression m.In _ refl f1 (λ in-seen f2. got {o = part left inner s (next t1)} f2 (λ body t2 e2 f3.
+      derived-as f3 (ap (λ l. rule.node (form.Let l) (body ∷ []) (here ts)) h.are) (spell.local h.head h.tail body (here ts)) (on-sign-at at (both h.read (on-sign in-seen (on-same s e2 nothing)))))))
 
   -- ---- junction lists
 
@@ -673,28 +546,26 @@ module _ (left : ℕ) (inner : ChainReader) (law : OneRightTree) (good : Good in
     pub read : Read region s.has_at (next ts) rest (expression s.region s.has_at head ∷ spell.items s.region s.has_at k s.region tail)
 
   -- the items, of which the first has its bullet at the next token
-  items-from : (n region : ℕ) (s : Setting) (k : Mark) (found : List Node) (ts : Tokens) (xs : List Node) (rest : Tokens) → is_outside k ≡ false → nat_lt region s.region ≡ true
-      → rule.items_from left inner n s k found ts ≡ Ok (xs, rest) → Itemed region s k found xs ts rest
-  unfolding rule.items_from
-  items-from zero region s k found ts xs rest kept over e = refused e
-  items-from (suc n) region s k found ts xs rest kept over e = got e (λ x mid e1 e2. by-test {b = nat_eq (here mid).column s.region && same_mark (mark mid) k} e2
-      (λ more e3. let h = items-from n region s k (found ++ x ∷ []) mid xs rest kept over e3 in
-      let column : (here mid).column ≡ s.region = eqb-true _ _ (and_parts (nat_eq (here mid).column s.region) _ more).0 in
-      let bullet : Stands region k mid = stands-at region k mid kept (subst (λ c. nat_lt region c ≡ true) (sym column) over) (marks-same (mark mid) k (and_parts (nat_eq (here mid).column s.region) _ more).1) in
-      record {
-        head = x;
-        tail = h.head ∷ h.tail;
-        are = h.are ∙ append_assoc found (x ∷ []) (h.head ∷ h.tail);
-        read = on-part s (below over) e1 (on-token bullet.may (bullet.marked, column) bullet.some h.read);
-      })
-      (λ none e3. let z = same-end _ xs mid rest e3 in record { head = x; tail = []; are = sym z.0; read = on-part s (below over) e1 (on-no-bullet (other-bullet s.region k mid none) (up-to z.1 nothing)) }))
-
-  items : (region : ℕ) (s : Setting) (k : Mark) (ts : Tokens) (xs : List Node) (rest : Tokens) → is_outside k ≡ false → nat_lt region s.region ≡ true
+  items : (region : ℕ) (s : Setting) (k : Mark) (ts : Tokens) (xs : List Node) (rest : Tokens) → is_final k ≡ false → nat_lt region s.region ≡ true
       → rule.items left inner s k ts ≡ Ok (xs, rest) → Itemed region s k [] xs ts rest
-  unfolding rule.items
-  items region s k ts xs rest kept over e = items-from (length ts) region s k [] ts xs rest kept over e
+  unfolding gathered gathered_from rule.bulleted
+  items region s k ts xs rest kept over e = turns (length ts) [] ts e
+    where
+      turns : (n : ℕ) (found : List Node) (ts : Tokens) → gathered_from n (ask (sees_bullet s k)) (rule.bulleted left inner s) put_last found ts ≡ Ok (xs, rest) → Itemed region s k found xs ts rest
+      turns zero found ts e = refused e
+      turns (suc n) found ts e = got {o = part left inner s (next ts)} e (λ x mid e1 e2. by-reader {b = sees_bullet s k mid} (gathered_from n (ask (sees_bullet s k)) (rule.bulleted left inner s) put_last (found ++ x ∷ [])) _ e2
+          (λ more e3. let h = turns n (found ++ x ∷ []) mid e3 in
+          let column : (here mid).column ≡ s.region = eqb-true _ _ (and_parts (nat_eq (here mid).column s.region) _ more).0 in
+          let bullet : Stands region k mid = stands-at region k mid kept (subst (λ c. nat_lt region c ≡ true) (sym column) over) (marks-same (mark mid) k (and_parts (nat_eq (here mid).column s.region) _ more).1) in
+          record {
+            head = x;
+            tail = h.head ∷ h.tail;
+            are = h.are ∙ append_assoc found (x ∷ []) (h.head ∷ h.tail);
+            read = on-part s (below over) e1 (on-token bullet.may (bullet.marked, column) bullet.some h.read);
+          })
+          (λ none e3. let z = same-end _ xs mid rest e3 in record { head = x; tail = []; are = sym z.0; read = on-part s (below over) e1 (on-no-bullet (other-bullet s.region k mid none) (up-to z.1 nothing)) }))
 
-  junction : (all : Bool) (s : Setting) (ts rest : Tokens) (n : Node) → is_outside (spell.junction_mark all) ≡ false → Stands s.region (spell.junction_mark all) ts
+  junction : (all : Bool) (s : Setting) (ts rest : Tokens) (n : Node) → is_final (spell.junction_mark all) ≡ false → Stands s.region (spell.junction_mark all) ts
       → rule.junction left inner all (spell.junction_mark all) s ts ≡ Ok (n, rest) → Derives s.region s.has_at ts rest n
   unfolding rule.junction
   junction all s ts rest n kept at e = got {o = rule.items left inner (right_of (here ts).column s) (spell.junction_mark all) ts} e (λ xs t1 e1 f1.
@@ -719,7 +590,7 @@ module _ (left : ℕ) (inner : ChainReader) (law : OneRightTree) (good : Good in
   unfolding rule.literal
   text s ts rest n at e = derived e (spell.text _ _) (on-token at.may (at.marked, refl, refl) at.some nothing)
 
-  operand-by : (s : Setting) (ts rest : Tokens) (n : Node) (k : Mark) → ((is_outside k ≡ false) → Stands s.region k ts) → rule.operand_by left inner s k ts ≡ Ok (n, rest) → Derives s.region s.has_at ts rest n
+  operand-by : (s : Setting) (ts rest : Tokens) (n : Node) (k : Mark) → ((is_final k ≡ false) → Stands s.region k ts) → rule.operand_by left inner s k ts ≡ Ok (n, rest) → Derives s.region s.has_at ts rest n
   operand-by s ts rest n m.Name at e = named s ts rest n (at refl) e
   operand-by s ts rest n m.Value at e = value s ts rest n (at refl) e
   operand-by s ts rest n m.Number at e = number s ts rest n (at refl) e

@@ -5,12 +5,12 @@ use Rattle.std_names.specs.Operators.{operator, prefix_rows, infix_rows}
 use Rattle.tla_ast.specs.declared.token.Token.{Token}
 use Rattle.tla_ast.specs.declared.token.Tok.TheVariants as tok
 use Rattle.tla_ast.specs.declared.place.Place.{Place}
-use Rattle.tla_ast.specs.declared.fault.SynFault.TheVariants as fault
+use Rattle.tla_ast.specs.declared.fault.Fault.TheVariants as fault
 use Rattle.tla_ast.specs.declared.fault.Kind.TheVariants as kind
 use Rattle.tla_ast.specs.declared.tree.Form.TheVariants as form
 use Rattle.tla_ast.specs.declared.tree.Node.{Node}
-use Rattle.layout_parser.specs.Marks.{words, signs, same_mark}
-use Rattle.layout_parser.specs.Input.{mark, sees, sees_second, refusal, after, expect, name, declared, opening, begins, too_deep}
+use Rattle.token_reader.specs.Marks.{words, signs, same_mark}
+use Rattle.token_reader.specs.Input.{mark, sees, sees_second, refusal, after, expect, name, declared, opening, begins, too_deep}
 use Rattle.layout_parser.specs.Reading.{node, finished, operator_in, field, value, literal, parameters_from, parameter_list, after_set, part, expressions_from, expressions, arguments, named, parenthesized, tuple, subscript, angle_end, angle, fair, image, filter, elements, brace_end, member_brace, tuple_brace_after, tuple_brace, brace_from, brace, fields_from, fields, record_of, record_set, function_set, index, key_of, keys_from, keys, update, updates_from, updates, except, square_end, function, member_square, square_name, square_from, square, bound_set, after_name, groups_from, groups, quantifier, domain, choose, conditional, arm, other_arm, arms_from, arms, cases, parameters, head, definition, definitions_from, definitions, local, items_from, items, junction, at, operand, indexed, step_before, step_after, chain_from, nested, reading}
 
 abbrev spot : ℕ → ℕ → Place

@@ -1,24 +1,24 @@
 -- What a reader has used, step by step.
 use Rattle.std.specs.Prelude.{◌≢◌}
-use Rattle.std.proofs.Common.{length, ◌≡◌, ℕ, zero, suc, ◌≤◌, Bool, true, false, if◌then◌else◌, nat_lt, Result, List, [], ◌∷◌, ◌++◌, Option, Some, None, Ok, Err, refl, sym, subst, ap, ◌∙◌, append_assoc, arith, rules}
+use Rattle.std.proofs.Common.{length, ◌≡◌, ℕ, zero, suc, ◌≤◌, Bool, true, false, if◌then◌else◌, nat_lt, Result, List, [], ◌∷◌, ◌++◌, Option, Some, None, Ok, Err, refl, sym, subst, ap, ◌∙◌, append_assoc, append-nil, map, arith}
 use Rattle.std.proofs.lemmas.Bool.{true≢false, and_parts}
-use denote.Enum.Bare.{same_true, true_same}
 use Rattle.std.proofs.lemmas.Option.{none-some}
 use Rattle.tla_ast.specs.declared.place.Place.{Place}
 use Rattle.tla_ast.specs.declared.token.Token.{Token}
 use Rattle.tla_ast.specs.declared.token.Tok.{Tok}
 use Rattle.tla_ast.specs.declared.token.Tok.TheVariants as tok
-use Rattle.tla_ast.specs.declared.fault.SynFault.{SynFault}
+use Rattle.tla_ast.specs.declared.fault.Fault.{Fault}
 use Rattle.tla_ast.specs.declared.tree.Node.{Node}
 use Rattle.tla_ast.specs.declared.tree.Decl.{Decl}
 use Rattle.tla_ast.specs.Listing.{is_last}
-use Rattle.layout_parser.specs.contracts.mark.Mark.{the_type}
-use Rattle.layout_parser.specs.declared.mark.Mark.{Mark}
-use Rattle.layout_parser.specs.declared.mark.Mark.TheVariants as m
-use Rattle.layout_parser.specs.declared.setting.Setting.{Setting}
-use Rattle.layout_parser.specs.declared.setting.Stop.{Stop}
-use Rattle.layout_parser.specs.Marks.{Text, mark_of, spelling, same_mark}
-use Rattle.layout_parser.specs.Input.{Tokens, Outcome, Reader, and_then, ◌>>=◌, ◌>>◌, first, next, here, mark, sees, expect, name, declared, opening, after}
+use Rattle.token_reader.specs.declared.mark.Mark.{Mark}
+use Rattle.token_reader.specs.declared.mark.Mark.TheVariants as m
+use Rattle.token_reader.specs.declared.setting.Setting.{Setting}
+use Rattle.token_reader.specs.declared.setting.Stop.{Stop}
+use Rattle.token_reader.specs.Marks.{Text, mark_of, spelling, is_final}
+use Rattle.token_reader.specs.Input.{Tokens, Outcome, Reader, ◌>>◌, first, next, here, mark, sees, eat, expect, name, declared, after}
+use Rattle.token_reader.specs.Lists.{gathered, gathered_from, put_last, ask}
+use Rattle.token_reader.proofs.Steps.{got, refused, same-end, by-test, by-reader, after-no, after-yes, not-empty, not-final, marks-same}
 use Rattle.std_names.specs.declared.operators.Fix.{Fix}
 use Rattle.std_names.specs.declared.operators.Fix.TheVariants.{Prefix, Infix, Postfix}
 use Rattle.std_names.specs.Operators.{operator, prefix_rows, infix_rows, postfix_rows}
@@ -30,33 +30,6 @@ use Rattle.operator_chain.specs.Listed.{AreListed}
 use Rattle.layout_parser.specs.Reading.{Chain, ChainReader, operator_at, operator_in, finished, by_tree}
 use Rattle.layout_parser.specs.Spelling.{no_bullet, of_no_bullet, Stops, Symbol, sign, sign_at, word, field_name, operand, operator_sign, expression, Symbols, Fits, MayUse, Operand, Subscript, pieces, Spelled, none, token, of_operand, of_tree}
 use Rattle.layout_parser.specs.Spelling as spell
-
--- ---- outcomes
-
--- a step that was made, and what came after it
-pub got : {A B : Type 0} {o : Outcome A} {f : A → Reader B} {b : B} {rest : Tokens} {X : Type 0} → and_then o f ≡ Ok (b, rest)
-    → ((a : A) (mid : Tokens) → o ≡ Ok (a, mid) → f a mid ≡ Ok (b, rest) → X) → X
-got {o = Ok p} e k = k p.0 p.1 refl e
-got {o = Err x} e k = absurd (cc)
-
--- no outcome is a fault and a result
-pub refused : {A : Type 0} {f : SynFault} {a : A} {rest : Tokens} {X : Type 0} → (let x : Outcome A = Err f in x) ≡ Ok (a, rest) → X
-refused e = absurd (cc)
-
--- what an outcome is
-pub same-end : {A : Type 0} (a b : A) (ts us : Tokens) → (let x : Outcome A = Ok (a, ts) in x) ≡ Ok (b, us) → (a ≡ b) × (ts ≡ us)
-same-end {A = A} a b ts us e = (ap (λ p. p.0) pair, ap (λ p. p.1) pair)
-  where
-    of_ok : Outcome A → A × Tokens
-    of_ok (Ok p) = p
-    of_ok (Err x) = (a, ts)
-
-    pair : (let p : A × Tokens = (a, ts) in p) ≡ (b, us)
-    pair = ap of_ok e
-
-pub by-test : {A : Type 0} {b : Bool} {x y z : A} {X : Type 0} → (if b then x else y) ≡ z → (b ≡ true → x ≡ z → X) → (b ≡ false → y ≡ z → X) → X
-by-test {b = true} e yes-case no-case = yes-case refl e
-by-test {b = false} e yes-case no-case = no-case refl e
 
 -- ---- tokens
 
@@ -72,34 +45,13 @@ pub record Stands (region : ℕ) (k : Mark) (ts : Tokens) : Type 0 where
   pub marked : mark_of (first ts).tok ≡ k
   pub some : ts ≡ first ts ∷ next ts
 
-abbrev pub is_outside : Mark → Bool
-is_outside m.Outside = true
-is_outside _ = false
-
-not-last : (t : Tok) → is_outside (mark_of t) ≡ false → is_last t ≡ false
-not-last tok.End h = absurd (true≢false h)
-not-last tok.Eof h = absurd (true≢false h)
-not-last _ h = refl
-
-pub not-empty : (ts : Tokens) → is_last (first ts).tok ≡ false → ts ≡ first ts ∷ next ts
-not-empty [] h = absurd (true≢false h)
-not-empty (t ∷ ts) h = refl
-
-pub marks-same : (a b : Mark) → same_mark a b ≡ true → a ≡ b
-unfolding same_mark
-marks-same a b e = same_true the_type (search rules) a b e
-
-pub same-marks : (a b : Mark) → a ≡ b → same_mark a b ≡ true
-unfolding same_mark
-same-marks a b e = true_same the_type a b e
-
-pub stands-at : (region : ℕ) (k : Mark) (ts : Tokens) → is_outside k ≡ false → nat_lt region (here ts).column ≡ true → mark ts ≡ k → Stands region k ts
+pub stands-at : (region : ℕ) (k : Mark) (ts : Tokens) → is_final k ≡ false → nat_lt region (here ts).column ≡ true → mark ts ≡ k → Stands region k ts
 unfolding mark
 stands-at region k ts kept inside marked =
-    let last : is_last (first ts).tok ≡ false = not-last (first ts).tok (ap is_outside marked ∙ kept) in
+    let last : is_last (first ts).tok ≡ false = not-final ts k kept marked in
     record { may = (inside, last); marked = marked; some = not-empty ts last }
 
-pub stands : (s : Setting) (k : Mark) (ts : Tokens) → is_outside k ≡ false → sees s k ts ≡ true → Stands s.region k ts
+pub stands : (s : Setting) (k : Mark) (ts : Tokens) → is_final k ≡ false → sees s k ts ≡ true → Stands s.region k ts
 unfolding sees
 stands s k ts kept e = stands-at s.region k ts kept (and_parts _ _ e).0 (marks-same (mark ts) k (and_parts _ _ e).1)
 
@@ -155,12 +107,12 @@ up-to {region} {has_at} {ts = ts} {ys = ys} e h = subst (λ l. Read region has_a
 -- ---- the small readers
 
 -- the token that a test asks is read
-pub is-next : {A : Type 0} {b : Bool} {x : A} (f : SynFault) {ts mid : Tokens} {a : A} → (let r : Outcome A = if b then Ok (x, ts) else Err f in r) ≡ Ok (a, mid) → (b ≡ true) × (x ≡ a) × (ts ≡ mid)
+pub is-next : {A : Type 0} {b : Bool} {x : A} (f : Fault) {ts mid : Tokens} {a : A} → (let r : Outcome A = if b then Ok (x, ts) else Err f in r) ≡ Ok (a, mid) → (b ≡ true) × (x ≡ a) × (ts ≡ mid)
 is-next {b = true} {x = x} f {ts = ts} {mid = mid} {a = a} e = (refl, (same-end x a ts mid e).0, (same-end x a ts mid e).1)
 is-next {b = false} f e = absurd (cc)
 
 -- a token that was asked for has been read
-pub eaten : (s : Setting) (before : Stop) (k : Mark) {B : Type 0} {ts : Tokens} (q : Reader B) {b : B} {rest : Tokens} {X : Type 0} → is_outside k ≡ false
+pub eaten : (s : Setting) (before : Stop) (k : Mark) {B : Type 0} {ts : Tokens} (q : Reader B) {b : B} {rest : Tokens} {X : Type 0} → is_final k ≡ false
     → (expect s before k >> q) ts ≡ Ok (b, rest) → (Stands s.region k ts → q (next ts) ≡ Ok (b, rest) → X) → X
 unfolding expect
 eaten s before k {ts = ts} q {b = b} {rest = rest} kept e go = got {o = expect s before k ts} {f = λ _. q} e (λ u mid e1 e2. let h = is-next _ e1 in
@@ -177,12 +129,6 @@ pub on-name : (s : Setting) (before : Stop) {x : Text} {ts mid rest : Tokens} {h
 unfolding name
 on-name s before {ts = ts} {rest = rest} {has_at = has_at} {ys = ys} e r = let h = is-next _ e in let at : Stands s.region m.Name ts = stands s m.Name ts refl h.0 in
     on-token at.may (at.marked, h.1) at.some (subst (λ l. Read s.region has_at l rest ys) (sym h.2) r)
-
--- what begins a bracket has been read
-pub begun : (left : ℕ) {B : Type 0} (ts : Tokens) (f : Place → Reader B) {b : B} {rest : Tokens} {X : Type 0} → (opening left >>= f) ts ≡ Ok (b, rest) → (f (here ts) (next ts) ≡ Ok (b, rest) → X) → X
-unfolding opening
-begun zero ts f e go = absurd (cc)
-begun (suc n) ts f e go = go e
 
 -- ---- operators
 
@@ -209,23 +155,67 @@ on-operator s fix {o = o} {ts = ts} {rest = rest} {has_at = has_at} {ys = ys} e 
 
 -- ---- tests of the next token
 
-pub by-reader : {A : Type 0} {b : Bool} (p q : Reader A) {us : Tokens} {z : Outcome A} {X : Type 0} → (if b then p else q) us ≡ z → (b ≡ true → p us ≡ z → X) → (b ≡ false → q us ≡ z → X) → X
-by-reader {b = true} p q e yes-case no-case = yes-case refl e
-by-reader {b = false} p q e yes-case no-case = no-case refl e
-
-pub after-no : (s : Setting) (k : Mark) (ts : Tokens) → sees s k ts ≡ false → after s k ts ≡ ts
-unfolding after
-after-no s k ts e = ap (λ b. if b then next ts else ts) e
-
-after-yes : (s : Setting) (k : Mark) (ts : Tokens) → sees s k ts ≡ true → after s k ts ≡ next ts
-unfolding after
-after-yes s k ts e = ap (λ b. if b then next ts else ts) e
-
-pub on-eat : (s : Setting) {k : Mark} {ts rest : Tokens} {has_at : Bool} {ys : Symbols} → is_outside k ≡ false → sees s k ts ≡ true → Read s.region has_at (after s k ts) rest ys → Read s.region has_at ts rest (sign k ∷ ys)
+pub on-eat : (s : Setting) {k : Mark} {ts rest : Tokens} {has_at : Bool} {ys : Symbols} → is_final k ≡ false → sees s k ts ≡ true → Read s.region has_at (after s k ts) rest ys → Read s.region has_at ts rest (sign k ∷ ys)
 on-eat s {k = k} {ts = ts} {rest = rest} {has_at = has_at} {ys = ys} kept seen r = on-sign (stands s k ts kept seen) (subst (λ l. Read s.region has_at l rest ys) (after-yes s k ts seen) r)
 
 pub on-no : (s : Setting) (k : Mark) {ts rest : Tokens} {has_at : Bool} {ys : Symbols} → sees s k ts ≡ false → Read s.region has_at (after s k ts) rest ys → Read s.region has_at ts rest ys
 on-no s k {ts = ts} {rest = rest} {has_at = has_at} {ys = ys} unseen r = subst (λ l. Read s.region has_at l rest ys) (after-no s k ts unseen) r
+
+-- ---- lists
+
+-- everything put to what was found
+abbrev pub puts : {A B Y : Type 0} → (B → A → B) → (Y → A) → B → List Y → B
+puts put form found [] = found
+puts put form found (y ∷ ys) = puts put form (put found (form y)) ys
+
+-- an item has been read, which is this form of its meaning
+pub record ItemRead {A Y : Type 0} (region : ℕ) (has_at : Bool) (form : Y → A) (symbols : Y → Symbols) (a : A) (ts rest : Tokens) : Type 0 where
+  pub item : Y
+  pub is : a ≡ form item
+  pub read : Read region has_at ts rest (symbols item)
+
+-- a list has been read: what was found is its items, one after another
+pub record ListRead {A B Y : Type 0} (region : ℕ) (has_at : Bool) (put : B → A → B) (form : Y → A) (symbols : Y → Symbols) (sep : Symbols) (found b : B) (ts rest : Tokens) : Type 0 where
+  pub head : Y
+  pub tail : List Y
+  pub are : b ≡ puts put form found (head ∷ tail)
+  pub read : Read region has_at ts rest (spell.between sep (symbols head) (map symbols tail))
+
+-- the test after an item reads these symbols where a further one comes, and nothing where none does
+abbrev pub Separates : ℕ → Bool → Symbols → Reader Bool → Type 0
+Separates region has_at sep goes_on = (ts mid : Tokens) (more : Bool) → goes_on ts ≡ Ok (more, mid) → (more ≡ true → Read region has_at ts mid sep) × (more ≡ false → ts ≡ mid)
+
+pub mark-separates : (s : Setting) (k : Mark) → is_final k ≡ false → Separates s.region s.has_at (sign k ∷ []) (eat s k)
+mark-separates s k kept ts mid more e = let z = same-end (sees s k ts) more (after s k ts) mid e in (
+  λ yes. let seen : sees s k ts ≡ true = z.0 ∙ yes in on-sign (stands s k ts kept seen) (up-to (sym (after-yes s k ts seen) ∙ z.1) nothing),
+  λ no. sym (after-no s k ts (z.0 ∙ no)) ∙ z.1,
+)
+
+pub ask-separates : (region : ℕ) (has_at : Bool) (test : Tokens → Bool) → Separates region has_at [] (ask test)
+ask-separates region has_at test ts mid more e = let z = same-end (test ts) more ts mid e in (λ yes. up-to z.1 nothing, λ no. z.1)
+
+-- the one induction on lists
+pub list-read : {A B Y : Type 0} (region : ℕ) (has_at : Bool) (put : B → A → B) (form : Y → A) (symbols : Y → Symbols) (sep : Symbols) (goes_on : Reader Bool) (item : Reader A)
+    → ((ts mid : Tokens) (a : A) → item ts ≡ Ok (a, mid) → ItemRead region has_at form symbols a ts mid) → Separates region has_at sep goes_on
+    → (found : B) (ts : Tokens) (b : B) (rest : Tokens) → gathered goes_on item put found ts ≡ Ok (b, rest) → ListRead region has_at put form symbols sep found b ts rest
+unfolding gathered gathered_from
+list-read {A} {B} region has_at put form symbols sep goes_on item reads separates found ts b rest e = turns (length ts) found ts e
+  where
+    turns : (n : ℕ) (found : B) (ts : Tokens) → gathered_from n goes_on item put found ts ≡ Ok (b, rest) → ListRead region has_at put form symbols sep found b ts rest
+    turns zero found ts e = refused e
+    turns (suc n) found ts e = got {o = item ts} e (λ a t1 e1 f1. got {o = goes_on t1} f1 (λ more t2 e2 f2. let one = reads ts t1 a e1 in let next-is = separates t1 t2 more e2 in by-reader {b = more} (gathered_from n goes_on item put (put found a)) _ f2
+        (λ yes f3. let h = turns n (put found a) t2 f3 in
+        record { head = one.item; tail = h.head ∷ h.tail; are = h.are ∙ ap (λ x. puts put form (put found x) (h.head ∷ h.tail)) one.is; read = both one.read (both (next-is.0 yes) h.read) })
+        (λ no f3. let z = same-end (put found a) b t2 rest f3 in
+        record { head = one.item; tail = []; are = sym z.0 ∙ ap (λ x. put found x) one.is; read = up-to (next-is.1 no ∙ z.1) one.read })))
+
+pub puts-last : {A Y : Type 0} (form : Y → A) (found : List A) (ys : List Y) → puts put_last form found ys ≡ found ++ map form ys
+puts-last form found [] = sym (append-nil found)
+puts-last form found (y ∷ ys) = puts-last form (found ++ form y ∷ []) ys ∙ append_assoc found (form y ∷ []) (map form ys)
+
+pub puts-same : {A : Type 0} (found ys : List A) → puts put_last (λ y. y) found ys ≡ found ++ ys
+puts-same found [] = sym (append-nil found)
+puts-same found (y ∷ ys) = puts-same (found ++ y ∷ []) ys ∙ append_assoc found (y ∷ []) ys
 
 -- ---- chains
 
@@ -251,7 +241,7 @@ pub finish : (c : Chain) (n : Node) (rest : Tokens) → finished c ≡ Ok (n, re
 unfolding finished
 finish c n rest e = go (tree_of c.0) (fault_of c.0) c.1 refl refl e
   where
-    go : (o : Option Tree) (w : Option Place) (r : Result Tokens SynFault) → tree_of c.0 ≡ o → c.1 ≡ r → by_tree o w r ≡ Ok (n, rest) → Finished c n rest
+    go : (o : Option Tree) (w : Option Place) (r : Result Tokens Fault) → tree_of c.0 ≡ o → c.1 ≡ r → by_tree o w r ≡ Ok (n, rest) → Finished c n rest
     go (Some t) w (Ok us) is end e = let h = same-end (node_of t) n us rest e in
         record { tree = t; is = is; node = sym h.0; chain = λ i. (c.0, (end ∙ ap Ok h.1) i) }
     go (Some t) w (Err f) is end e = absurd (cc)

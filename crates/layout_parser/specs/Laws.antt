@@ -1,43 +1,48 @@
 -- What readings of expressions are, in the words of the language.
-use Rattle.std.specs.Prelude.{◌≡◌, ℕ, ◌<◌, ◌≤◌, true, false, nat_lt, List, ◌++◌, length, drop, Ok}
+use Rattle.std.specs.Prelude.{◌≡◌, ℕ, ◌<◌, true, nat_lt, List, ◌++◌, length, drop, Ok, Err}
 use Rattle.std.specs.List.{All}
+use Rattle.tla_ast.specs.declared.fault.Fault.{Fault}
 use Rattle.tla_ast.specs.declared.token.Token.{Token}
 use Rattle.tla_ast.specs.declared.tree.Node.{Node}
-use Rattle.tla_ast.specs.Listing.{IsTokenList}
-use Rattle.layout_parser.specs.Input.{first}
-use Rattle.layout_parser.specs.Reading.{reading}
+use Rattle.tla_ast.specs.Listing.{Ends}
+use Rattle.token_reader.specs.declared.setting.Setting.{Setting}
+use Rattle.token_reader.specs.Input.{Tokens, first}
+use Rattle.token_reader.specs.Faults.{is_of_expressions, FaultIn}
+use Rattle.layout_parser.specs.Reading.{expression, outermost, reading}
 use Rattle.layout_parser.specs.Spelling.{Spells, Stops}
 
--- the reading at `from` is this node, and it ends before the token at `to`
-abbrev pub IsReading : List Token → ℕ → ℕ → ℕ → Node → ℕ → Type 0
-IsReading ts from region depth n to = reading ts from region depth ≡ Ok (n, to)
+-- the reading of the tokens in this setting, under so many nestings, is this node, and these tokens are left
+abbrev pub IsReading : ℕ → Setting → Tokens → Node → Tokens → Type 0
+IsReading depth s ts n rest = expression depth s ts ≡ Ok (n, rest)
 
--- The tokens of the reading: all that stand from `from` up to `to`.
-pub record Uses (ts : List Token) (from to : ℕ) (used : List Token) : Type 0 where
-  pub are : drop from ts ≡ used ++ drop to ts
-  pub some : from < to
-  pub within : to ≤ length ts
+-- these tokens, in their order, are what the reading used
+abbrev pub Uses : Tokens → Tokens → (Tokens → Type 0) → Type 0
+Uses ts rest P = (used : Tokens) × (ts ≡ used ++ rest) × P used
 
--- what is read is what the tokens from `from` up to `to` spell, in order, before those that follow
+-- what is read is what the tokens that are used spell, in order, before those that are left
 abbrev pub ReadInOrder : Type 0
-ReadInOrder = (ts : List Token) (from region depth : ℕ) (n : Node) (to : ℕ) → IsReading ts from region depth n to
-    → (used : List Token) × Uses ts from to used × Spells region false n used (drop to ts)
+ReadInOrder = (depth : ℕ) (s : Setting) (ts : Tokens) (n : Node) (rest : Tokens) → IsReading depth s ts n rest
+    → Uses ts rest (λ used. Spells s.region s.has_at n used rest)
 
 -- no token outside the region is used
 abbrev pub InsideTheRegion : Type 0
-InsideTheRegion = (ts : List Token) (from region depth : ℕ) (n : Node) (to : ℕ) → IsReading ts from region depth n to
-    → (used : List Token) × Uses ts from to used × All (λ t. nat_lt region t.place.column ≡ true) used
+InsideTheRegion = (depth : ℕ) (s : Setting) (ts : Tokens) (n : Node) (rest : Tokens) → IsReading depth s ts n rest
+    → Uses ts rest (λ used. All (λ t. nat_lt s.region t.place.column ≡ true) used)
 
 -- a reading ends at the first token that does not go on with it
 abbrev pub EndIsExact : Type 0
-EndIsExact = (ts : List Token) (from region depth : ℕ) (n : Node) (to : ℕ) → IsReading ts from region depth n to → Stops region (first (drop to ts))
+EndIsExact = (depth : ℕ) (s : Setting) (ts : Tokens) (n : Node) (rest : Tokens) → IsReading depth s ts n rest → Stops s.region (first rest)
 
--- a list of tokens goes on where a reading ends
+-- a list of tokens goes on where a reading ends, up to the token that ends it; a token at least is used
 abbrev pub EndsBeforeTheLast : Type 0
-EndsBeforeTheLast = (ts : List Token) (from region depth : ℕ) (n : Node) (to : ℕ) → IsTokenList ts → IsReading ts from region depth n to
-    → (from < to) × (to < length ts)
+EndsBeforeTheLast = (depth : ℕ) (s : Setting) (ts : Tokens) (n : Node) (rest : Tokens) → Ends ts → IsReading depth s ts n rest
+    → Ends rest × (length rest < length ts)
 
--- two readings at one place are the same
-abbrev pub OneReading : Type 0
-OneReading = (ts : List Token) (from region depth : ℕ) (a b : Node) (i j : ℕ) → IsReading ts from region depth a i → IsReading ts from region depth b j
-    → (a ≡ b) × (i ≡ j)
+-- a fault stands at a token of the list, and is Expected, Precedence, TooDeep or Unsupported
+abbrev pub FaultsStandInTheList : Type 0
+FaultsStandInTheList = (depth : ℕ) (s : Setting) (ts : Tokens) (e : Fault) → Ends ts → expression depth s ts ≡ Err e → FaultIn is_of_expressions ts e
+
+-- A reading at a place of a list is that of the tokens from there on, and leaves those from its end on.
+abbrev pub EndIsThePlace : Type 0
+EndIsThePlace = (ts : List Token) (from region depth : ℕ) (n : Node) (to : ℕ) → reading ts from region depth ≡ Ok (n, to)
+    → IsReading depth (outermost region) (drop from ts) n (drop to ts)

@@ -3,16 +3,16 @@ use Rattle.std.specs.Prelude.{◌≡◌, ℕ, Bool, Option, Some, None, Result, 
 use Rattle.core_expr.specs.declared.memory.Memory.{Memory}
 use Rattle.std.specs.declared.alloc.Global.{Global}
 use denote.Ref.{MutBor}
-use Rattle.tla_ast.specs.declared.fault.SynFault.{SynFault}
+use Rattle.tla_ast.specs.declared.fault.Fault.{Fault}
 use Rattle.layout_parser.specs.declared.flat.Flat.{Flat}
 use Rattle.layout_parser.specs.declared.flat.Step.{Step}
 use Rattle.layout_parser.specs.declared.flat.Step.TheVariants.{More, Ended, Broken}
-use Rattle.layout_parser.specs.declared.setting.Setting.{Setting}
-use Rattle.layout_parser.specs.Input.{Tokens}
+use Rattle.token_reader.specs.declared.setting.Setting.{Setting}
+use Rattle.token_reader.specs.Input.{Tokens}
 use Rattle.layout_parser.specs.Reading.{Chain, Stepped, nested}
 
 -- after a fault nothing is said of the tokens that are left
-abbrev pub ended : Option SynFault → Tokens → Result Tokens SynFault
+abbrev pub ended : Option Fault → Tokens → Result Tokens Fault
 ended None ts = Ok ts
 ended (Some e) ts = Err e
 

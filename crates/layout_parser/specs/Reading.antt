@@ -3,8 +3,9 @@ use Rattle.std.specs.Prelude.{◌≡◌, ◌≢◌, ℕ, zero, suc, ◌-◌, Boo
 use Rattle.tla_ast.specs.declared.place.Place.{Place}
 use Rattle.tla_ast.specs.declared.token.Token.{Token}
 use Rattle.tla_ast.specs.declared.fault.Kind.TheVariants.{Precedence}
-use Rattle.tla_ast.specs.declared.fault.SynFault.{SynFault}
-use Rattle.tla_ast.specs.declared.fault.SynFault.TheVariants as fault
+use Rattle.tla_ast.specs.declared.limit.TheConstants.{MOST_NESTINGS}
+use Rattle.tla_ast.specs.declared.fault.Fault.{Fault}
+use Rattle.tla_ast.specs.declared.fault.Fault.TheVariants as fault
 use Rattle.tla_ast.specs.declared.tree.Node.{Node, roll-Node, out-Node}
 use Rattle.tla_ast.specs.declared.tree.Form.{Form, out-Form}
 use Rattle.tla_ast.specs.declared.tree.Form.TheVariants as form
@@ -23,25 +24,22 @@ use Rattle.operator_chain.specs.declared.chain.Piece.{Piece}
 use Rattle.operator_chain.specs.declared.chain.Piece.TheVariants as piece
 use Rattle.operator_chain.specs.Tree.{Tree, node_of, hole}
 use Rattle.operator_chain.specs.Chain.{tree_of, fault_of}
-use Rattle.layout_parser.specs.declared.mark.Mark.{Mark}
-use Rattle.layout_parser.specs.declared.mark.Mark.TheVariants as m
-use Rattle.layout_parser.specs.declared.setting.Around.{Around}
-use Rattle.layout_parser.specs.declared.setting.Around.TheVariants as around
-use Rattle.layout_parser.specs.declared.setting.Setting.{Setting}
-use Rattle.layout_parser.specs.declared.setting.Stop.TheVariants as stop
-use Rattle.std.specs.Option.{is_some}
+use Rattle.token_reader.specs.declared.mark.Mark.{Mark}
+use Rattle.token_reader.specs.declared.mark.Mark.TheVariants as m
+use Rattle.token_reader.specs.declared.setting.Around.{Around}
+use Rattle.token_reader.specs.declared.setting.Around.TheVariants as around
+use Rattle.token_reader.specs.declared.setting.Setting.{Setting}
+use Rattle.token_reader.specs.declared.setting.Stop.TheVariants as stop
 use Rattle.layout_parser.specs.declared.square.Fields.{Fields}
 use Rattle.layout_parser.specs.declared.except.Updates.{Updates}
-use Rattle.layout_parser.specs.declared.words.Arms.{Arms}
-use Rattle.layout_parser.specs.declared.bound.After.{After}
-use Rattle.layout_parser.specs.declared.bound.After.TheVariants as after
 use Rattle.layout_parser.specs.declared.flat.Step.{Step}
 use Rattle.layout_parser.specs.declared.flat.Step.TheVariants.{More, Ended, Broken}
 use Rattle.std_names.specs.declared.operators.Fix.{Fix}
 use Rattle.std_names.specs.declared.operators.Fix.TheVariants.{Prefix, Infix}
 use Rattle.std_names.specs.Operators.{operator}
-use Rattle.layout_parser.specs.Marks.{Text, spelling, same_mark}
-use Rattle.layout_parser.specs.Input.{Tokens, Outcome, Reader, and_then, ◌>>=◌, ◌>>◌, ◌<$>◌, pure, refuse, refusal, take, eat, expect, name, declared, opening, first, next, here, mark, is_inside, sees, sees_second, within, with_at, right_of, is_tuple, literal_form, too_deep}
+use Rattle.token_reader.specs.Marks.{Text, spelling, same_mark}
+use Rattle.token_reader.specs.Lists.{gathered, put_last, separated, ask, names}
+use Rattle.token_reader.specs.Input.{Tokens, Outcome, Reader, and_then, ◌>>=◌, ◌>>◌, ◌<$>◌, pure, refuse, refusal, take, eat, expect, name, declared, opening, first, next, here, mark, is_inside, sees, sees_second, within, with_at, right_of, is_tuple, literal_form, too_deep}
 
 abbrev pub node : Form → List Node → Place → Node
 node f parts place = roll-Node (record { form = f; parts = parts; place = place })
@@ -53,14 +51,14 @@ group names domain = roll-Group (record { names = names; domain = domain })
 
 -- a chain as far as it was read, and how it ended: before these tokens, or at a fault
 abbrev pub Chain : Type 0
-Chain = List Piece × Result Tokens SynFault
+Chain = List Piece × Result Tokens Fault
 
 abbrev pub behind : List Piece → Chain → Chain
 behind xs c = (xs ++ c.0, c.1)
 
 -- A chain is read as its one right tree. A wrong operator stands before what ended the chain, so that its fault comes first; where
 -- the chain broke off, it counts with a plain operand where one must come.
-abbrev pub by_tree : Option Tree → Option Place → Result Tokens SynFault → Outcome Node
+abbrev pub by_tree : Option Tree → Option Place → Result Tokens Fault → Outcome Node
 by_tree (Some t) wrong (Ok rest) = Ok (node_of t, rest)
 by_tree (Some t) wrong (Err e) = Err e
 by_tree None (Some p) end = Err (fault.At p Precedence)
@@ -132,10 +130,10 @@ member_at place = piece.Infix (record { sign = codes "\\in"; low = 5; high = 5; 
 abbrev pub after_member : Text → Place → Place → Chain → Chain
 after_member x place sign c = behind (piece.Operand (node (form.Name x) [] place) ∷ member_at sign ∷ []) c
 
--- the chain ended where this mark comes next, and has a right tree
-abbrev pub is_whole : Setting → Mark → Chain → Bool
-is_whole s k (xs, Ok rest) = sees s k rest && is_some (tree_of xs)
-is_whole s k (xs, Err e) = false
+-- the chain is read without a fault inside it, and this mark comes next; whether it has a right tree is left aside
+abbrev pub ends_at : Setting → Mark → Chain → Bool
+ends_at s k (xs, Ok rest) = sees s k rest
+ends_at s k (xs, Err e) = false
 
 -- a tuple
 abbrev pub is_tuple_form : Form → Bool
@@ -151,13 +149,17 @@ by_ending s (ending.Index e) = pure (key.At e)
 by_ending s (ending.Field h) = pure (key.Field h)
 by_ending s ending.Prime = refuse s stop.Other
 
+-- a key of a path comes next
+abbrev pub begins_key : Setting → Tokens → Bool
+begins_key s ts = sees s m.OpenSquare ts || sees s m.Dot ts
+
 abbrev pub by_key : Setting → Chain → Outcome Key
 by_key s (piece.Postfix q ∷ [], Ok rest) = by_ending s q.ending rest
 by_key s (xs, Ok rest) = refuse s stop.Other rest
 by_key s (xs, Err e) = Err e
 
 -- where a chain ends that has as many pieces as it may have
-abbrev pub full : Setting → Bool → Tokens → Result Tokens SynFault
+abbrev pub full : Setting → Bool → Tokens → Result Tokens Fault
 full s true ts = Err (refusal s stop.Operand ts)
 full s false ts = Ok ts
 
@@ -167,16 +169,20 @@ abbrev pub no_fields : Fields
 no_fields = record { names = []; parts = [] }
 
 -- the fields with one more: its name, and a node of the name and the expression
-abbrev pub with_field : Fields → Decl → Node → Fields
-with_field f h e = record { names = f.names ++ h.name ∷ []; parts = f.parts ++ node (form.Name h.name) [] h.place ∷ e ∷ [] }
+abbrev pub with_field : Fields → Decl × Node → Fields
+with_field f h = record { names = f.names ++ h.0.name ∷ []; parts = f.parts ++ node (form.Name h.0.name) [] h.0.place ∷ h.1 ∷ [] }
 
 -- the function, before any update
 abbrev pub no_updates : Node → Updates
 no_updates f = record { paths = []; parts = f ∷ [] }
 
 -- the updates with one more
-abbrev pub with_update : Updates → Path → Node → Updates
-with_update u path e = record { paths = u.paths ++ path ∷ []; parts = u.parts ++ e ∷ [] }
+abbrev pub with_update : Updates → Path × Node → Updates
+with_update u x = record { paths = u.paths ++ x.0 ∷ []; parts = u.parts ++ x.1 ∷ [] }
+
+-- the arms with one more: its guard and its value
+abbrev pub with_arm : List Node → Node × Node → List Node
+with_arm parts a = parts ++ a.0 ∷ a.1 ∷ []
 
 -- ---- what holds no expression
 
@@ -188,28 +194,13 @@ value = λ ts. Ok (node (form.Name (spelling (first ts).tok)) [] (here ts), next
 unfoldable pub literal : Reader Node
 literal = λ ts. Ok (node (literal_form (first ts).tok) [] (here ts), next ts)
 
--- one or more parameters, with commas between
-unfoldable pub parameters_from : ℕ → Setting → List Decl → Reader (List Decl)
-parameters_from zero s found = refuse s stop.Parameter
-parameters_from (suc n) s found = do
-  d ← declared s stop.Other
-  more ← eat s m.Comma
-  if more then parameters_from n s (found ++ d ∷ []) else pure (found ++ d ∷ [])
+-- a further arm comes: a `[]` that is not that of OTHER, which is read
+abbrev pub further_arm : Setting → Reader Bool
+further_arm s = λ ts. if sees_second s m.Other ts then Ok (false, ts) else eat s m.Always ts
 
-unfoldable pub parameter_list : Setting → Reader (List Decl)
-parameter_list s = λ ts. parameters_from (length ts) s [] ts
-
--- what follows the set of a group of bound names
-unfoldable pub after_set : Setting → Group → Reader After
-after_set s g = λ ts.
-    let bad : Outcome After = refuse s stop.Expression ts in
-    if sees s m.Comma ts then Ok (after.Group g, next ts) else (if sees s m.Colon ts then Ok (after.Last g, next ts) else bad)
-
--- a bound name's group goes on, another group comes, or that was the last
-abbrev pub go_on : (List Group → List Decl → Reader (List Group)) → List Group → After → Reader (List Group)
-go_on more gs (after.Name names) = more gs names
-go_on more gs (after.Group g) = more (gs ++ g ∷ []) []
-go_on more gs (after.Last g) = pure (gs ++ g ∷ [])
+-- the same sign comes next in the column of the bullets
+abbrev pub sees_bullet : Setting → Mark → Tokens → Bool
+sees_bullet s k ts = nat_eq (here ts).column s.region && same_mark (mark ts) k
 
 -- ---- the rules. `left` is how many nestings may still begin, and `inner` reads a chain in a further nesting.
 
@@ -220,16 +211,9 @@ module _ (left : ℕ) (inner : ChainReader) where
 
   -- ---- lists
 
-  -- one or more expressions, with commas between, after those found. The number bounds the turns, and each turn takes a token.
-  unfoldable pub expressions_from : ℕ → Setting → List Node → Reader (List Node)
-  expressions_from zero s found = refuse s stop.Expression
-  expressions_from (suc n) s found = do
-    x ← part s
-    more ← eat s m.Comma
-    if more then expressions_from n s (found ++ x ∷ []) else pure (found ++ x ∷ [])
-
-  unfoldable pub expressions : Setting → List Node → Reader (List Node)
-  expressions s found = λ ts. expressions_from (length ts) s found ts
+  -- one or more expressions, with commas between, after those found
+  abbrev pub expressions : Setting → List Node → Reader (List Node)
+  expressions s = separated s m.Comma (part s)
 
   -- ---- names, parentheses, angle brackets
 
@@ -289,14 +273,14 @@ module _ (left : ℕ) (inner : ChainReader) where
     is_empty ← eat (within around.Other s) m.CloseAngle
     if is_empty then pure (node form.Tuple [] place) else (expressions (within around.Other s) [] >>= angle_end s place)
 
-  -- `WF_v(A)` and `SF_v(A)`
+  -- `WF_v(A)` and `SF_v(A)`; the subscript is an expression that has ended
   unfoldable pub fair : Bool → Setting → Reader Node
   fair strong s = do
     place ← take
     v ← subscript s
     (λ ts.
         let action = ((λ a. node (form.Fair strong) (v ∷ a ∷ []) place) <$> parenthesized s) ts in
-        let bad : Outcome Node = refuse s stop.Other ts in
+        let bad : Outcome Node = refuse s stop.Expression ts in
         if sees s m.OpenParen ts then action else bad)
 
   -- ---- braces
@@ -310,9 +294,10 @@ module _ (left : ℕ) (inner : ChainReader) where
     expect (within around.Colon s) stop.Expression m.CloseBrace
     pure (node (form.Image d.name) (set ∷ e ∷ []) d.place)
 
-  -- `{x \in S : P}`, after the `:`
+  -- `{x \in S : P}`, after the set
   unfoldable pub filter : Setting → Text → Place → Node → Reader Node
   filter s x place set = do
+    expect s stop.Expression m.Colon
     condition ← part (within around.Colon s)
     expect (within around.Colon s) stop.Expression m.CloseBrace
     pure (node (form.Filter x) (set ∷ condition ∷ []) place)
@@ -333,14 +318,14 @@ module _ (left : ℕ) (inner : ChainReader) where
       if sees s m.Colon ts && not (is_tuple s.around) then mapped
       else (if sees s m.Comma ts then more else (if sees s m.CloseBrace ts then Ok (node form.Enum (e ∷ []) place, next ts) else bad))
 
-  -- A brace that begins with `x \in`: `{x \in S : P}` where S is read as a whole and a `:` follows, and else another brace whose
-  -- first expression begins with `x \in`.
+  -- A brace that begins with `x \in`: `{x \in S : P}` where the chain of S is read and a `:` follows, so that a wrong operator in
+  -- it is a fault of that chain; and else another brace whose first expression begins with `x \in`.
   unfoldable pub member_brace : Setting → Place → Reader Node
   member_brace s place = λ ts.
       let c = inner (length (next (next ts))) s true (next (next ts)) in
-      let found = and_then (finished c) (λ set rest. filter s (spelling (first ts).tok) (here ts) set (next rest)) in
+      let found = and_then (finished c) (filter s (spelling (first ts).tok) (here ts)) in
       let other = and_then (finished (after_member (spelling (first ts).tok) (here ts) (here (next ts)) c)) (brace_end s place) in
-      if is_whole s m.Colon c then found else other
+      if ends_at s m.Colon c then found else other
 
   -- a brace after its first operand
   unfoldable pub tuple_brace_after : Setting → Place → Node → Reader Node
@@ -371,18 +356,17 @@ module _ (left : ℕ) (inner : ChainReader) where
 
   -- ---- square brackets
 
-  -- one or more `h |-> e` or `h : S`, with commas between, after those found
-  unfoldable pub fields_from : ℕ → Setting → Mark → Fields → Reader Fields
-  fields_from zero s k found = refuse s stop.Expression
-  fields_from (suc n) s k found = do
+  -- `h |-> e` or `h : S`
+  unfoldable pub field_of : Setting → Mark → Reader (Decl × Node)
+  field_of s k = do
     h ← declared s stop.Other
     expect s stop.Other k
     e ← part s
-    more ← eat s m.Comma
-    if more then fields_from n s k (with_field found h e) else pure (with_field found h e)
+    pure (h, e)
 
-  unfoldable pub fields : Setting → Mark → Reader Fields
-  fields s k = λ ts. fields_from (length ts) s k no_fields ts
+  -- one or more fields, with commas between
+  abbrev pub fields : Setting → Mark → Reader Fields
+  fields s k = gathered (eat s m.Comma) (field_of s k) with_field no_fields
 
   -- `[h |-> e, ..]`, after the `[`
   unfoldable pub record_of : Setting → Place → Reader Node
@@ -418,17 +402,11 @@ module _ (left : ℕ) (inner : ChainReader) where
   key_of s = λ ts.
       let found = by_key s (inner 1 s false ts) in
       let bad : Outcome Key = refuse s stop.Other ts in
-      if sees s m.OpenSquare ts || sees s m.Dot ts then found else bad
+      if begins_key s ts then found else bad
 
   -- one or more keys
-  unfoldable pub keys_from : ℕ → Setting → List Key → Reader (List Key)
-  keys_from zero s found = refuse s stop.Other
-  keys_from (suc n) s found = key_of s >>= (λ k ts.
-      let more = keys_from n s (found ++ k ∷ []) ts in
-      if sees s m.OpenSquare ts || sees s m.Dot ts then more else Ok (found ++ k ∷ [], ts))
-
-  unfoldable pub keys : Setting → Reader (List Key)
-  keys s = λ ts. keys_from (length ts) s [] ts
+  abbrev pub keys : Setting → Reader (List Key)
+  keys s = gathered (ask (begins_key s)) (key_of s) put_last []
 
   -- `!path = e`; `@` has a meaning in e
   unfoldable pub update : Setting → Reader (Path × Node)
@@ -439,16 +417,9 @@ module _ (left : ℕ) (inner : ChainReader) where
     e ← part (with_at s)
     pure (roll-Path (record { keys = ks }), e)
 
-  -- one or more updates, with commas between, after those found
-  unfoldable pub updates_from : ℕ → Setting → Updates → Reader Updates
-  updates_from zero s found = refuse s stop.Expression
-  updates_from (suc n) s found = do
-    u ← update s
-    more ← eat s m.Comma
-    if more then updates_from n s (with_update found u.0 u.1) else pure (with_update found u.0 u.1)
-
-  unfoldable pub updates : Setting → Node → Reader Updates
-  updates s f = λ ts. updates_from (length ts) s (no_updates f) ts
+  -- one or more updates, with commas between
+  abbrev pub updates : Setting → Node → Reader Updates
+  updates s f = gathered (eat s m.Comma) (update s) with_update (no_updates f)
 
   -- `[f EXCEPT !path = e, ..]`, after the EXCEPT
   unfoldable pub except : Setting → Place → Node → Reader Node
@@ -466,21 +437,22 @@ module _ (left : ℕ) (inner : ChainReader) where
       let bad : Outcome Node = refuse s stop.Expression ts in
       if sees s m.CloseBox ts then act else (if sees s m.Arrow ts then sets else (if sees s m.Except ts then changed else bad))
 
-  -- `[x \in S |-> e]`, after the `|->`
+  -- `[x \in S |-> e]`, after the set
   unfoldable pub function : Setting → Text → Place → Node → Reader Node
   function s x place set = do
+    expect s stop.Expression m.Maps
     e ← part s
     expect s stop.Expression m.CloseSquare
     pure (node (form.Function x) (set ∷ e ∷ []) place)
 
-  -- A bracket that begins with `x \in`: `[x \in S |-> e]` where S is read as a whole and a `|->` follows, and else another bracket
-  -- whose first expression begins with `x \in`.
+  -- A bracket that begins with `x \in`: `[x \in S |-> e]` where the chain of S is read and a `|->` follows, and else another
+  -- bracket whose first expression begins with `x \in`.
   unfoldable pub member_square : Around → Setting → Place → Reader Node
   member_square outer s place = λ ts.
       let c = inner (length (next (next ts))) s true (next (next ts)) in
-      let found = and_then (finished c) (λ set rest. function s (spelling (first ts).tok) (here ts) set (next rest)) in
+      let found = and_then (finished c) (function s (spelling (first ts).tok) (here ts)) in
       let other = and_then (finished (after_member (spelling (first ts).tok) (here ts) (here (next ts)) c)) (square_end outer s place) in
-      if is_whole s m.Maps c then found else other
+      if ends_at s m.Maps c then found else other
 
   -- after `[`, where it begins with a name
   unfoldable pub square_name : Around → Setting → Place → Reader Node
@@ -504,31 +476,40 @@ module _ (left : ℕ) (inner : ChainReader) where
 
   -- ---- bound names
 
+  -- the `\in` and the set of a group of names
   unfoldable pub bound_set : Setting → List Decl → Reader Group
-  bound_set s names = (λ x. group names (Some x)) <$> part s
+  bound_set s ns = do
+    expect s stop.Other m.Belongs
+    x ← part s
+    pure (group ns (Some x))
 
-  -- what follows a bound name: a comma, a set, or the `:`, which may come without a set where this is the first group
-  unfoldable pub after_name : Setting → List Decl → Bool → Reader After
-  after_name s names is_first = λ ts.
-      let set = (bound_set s names >>= after_set s) (next ts) in
-      let bad : Outcome After = refuse s stop.Other ts in
-      if sees s m.Comma ts then Ok (after.Name names, next ts)
-      else (if sees s m.Belongs ts then set
-      else (if sees s m.Colon ts && is_first then Ok (after.Last (group names None), next ts) else bad))
+  -- a group of names with a set
+  unfoldable pub bound : Setting → Reader Group
+  bound s = names s stop.Bound >>= bound_set s
 
-  -- One or more groups of names with a set, or one group without a set, and the `:`; the groups and the names of the next group
-  -- that are found come before.
-  unfoldable pub groups_from : ℕ → Setting → List Group → List Decl → Reader (List Group)
-  groups_from zero s gs names = refuse s stop.Other
-  groups_from (suc n) s gs names = declared s stop.Bound >>= (λ d. after_name s (names ++ d ∷ []) (nat_eq (length gs) 0)) >>= go_on (groups_from n s) gs
+  -- one or more groups with sets, with commas between, after those found
+  abbrev pub further_bounds : Setting → List Group → Reader (List Group)
+  further_bounds s = separated s m.Comma (bound s)
 
-  unfoldable pub groups : Setting → Reader (List Group)
-  groups s = λ ts. groups_from (length ts) s [] [] ts
+  -- one or more groups with sets, of which the first has these names
+  unfoldable pub bounds : Setting → List Decl → Reader (List Group)
+  bounds s ns = do
+    g ← bound_set s ns
+    more ← eat s m.Comma
+    if more then further_bounds s (g ∷ []) else pure (g ∷ [])
+
+  -- one or more groups with sets, or one group without a set where the `:` comes after its names
+  unfoldable pub groups_of : Setting → List Decl → Reader (List Group)
+  groups_of s ns = λ ts.
+      let with_sets = bounds s ns ts in
+      if sees s m.Colon ts then Ok (group ns None ∷ [], ts) else with_sets
 
   unfoldable pub quantifier : Bool → Setting → Reader Node
   quantifier all s = do
     place ← take
-    gs ← groups s
+    ns ← names s stop.Bound
+    gs ← groups_of s ns
+    expect s stop.Expression m.Colon
     body ← part s
     pure (node (form.Quant all gs) (body ∷ []) place)
 
@@ -567,35 +548,35 @@ module _ (left : ℕ) (inner : ChainReader) where
     e ← part s
     pure (guard, e)
 
-  -- the value of OTHER, after that word
-  unfoldable pub other_arm : Setting → List Node → Reader Arms
-  other_arm s parts = do
+  -- one or more arms with `[]` between, up to that of OTHER
+  abbrev pub arms : Setting → Reader (List Node)
+  arms s = gathered (further_arm s) (arm s) with_arm []
+
+  -- the value of OTHER, after the `[]`
+  unfoldable pub other_arm : Setting → Reader Node
+  other_arm s = do
+    expect s stop.Other m.Other
     expect s stop.Other m.Arrow
-    e ← part s
-    pure (record { parts = parts ++ e ∷ []; other = true })
+    part s
 
-  -- one or more arms with `[]` between, of which the last may be that of OTHER, after the parts found
-  unfoldable pub arms_from : ℕ → Setting → List Node → Reader Arms
-  arms_from zero s parts = refuse s stop.Expression
-  arms_from (suc n) s parts = do
-    a ← arm s
-    more ← eat s m.Always
-    if more then (eat s m.Other >>= (λ is_other. if is_other then other_arm s (parts ++ a.0 ∷ a.1 ∷ []) else arms_from n s (parts ++ a.0 ∷ a.1 ∷ []))) else pure (record { parts = parts ++ a.0 ∷ a.1 ∷ []; other = false })
+  -- what follows the arms: that of OTHER, or nothing
+  unfoldable pub case_end : Setting → Place → List Node → Reader Node
+  case_end s place parts = λ ts.
+      let with_other = ((λ e. node (form.Case true) (parts ++ e ∷ []) place) <$> other_arm s) (next ts) in
+      if sees s m.Always ts then with_other else Ok (node (form.Case false) parts place, ts)
 
-  unfoldable pub arms : Setting → Reader Arms
-  arms s = λ ts. arms_from (length ts) s [] ts
-
+  -- one or more arms, of which the last may be that of OTHER
   unfoldable pub cases : Setting → Reader Node
   cases s = do
     place ← take
-    a ← arms s
-    pure (node (form.Case a.other) a.parts place)
+    parts ← arms s
+    case_end s place parts
 
   -- the parameters of a definition in parentheses
   unfoldable pub parameters : Setting → Reader (List Decl)
   parameters s = do
     opening left
-    ds ← parameter_list (within around.Other s)
+    ds ← names (within around.Other s) stop.Other
     expect (within around.Other s) stop.Parameter m.CloseParen
     pure ds
 
@@ -613,36 +594,28 @@ module _ (left : ℕ) (inner : ChainReader) where
     body ← part s
     pure (roll-Def (record { name = d.name; params = ds; body = body; place = d.place }))
 
-  -- one or more definitions, and the IN
-  unfoldable pub definitions_from : ℕ → Setting → List Def → Reader (List Def)
-  definitions_from zero s found = refuse s stop.Other
-  definitions_from (suc n) s found = definition s >>= (λ d ts.
-      let more = definitions_from n s (found ++ d ∷ []) ts in
-      let end = (expect s stop.Expression m.In >> pure (found ++ d ∷ [])) ts in
-      if sees s m.Name ts then more else end)
-
-  unfoldable pub definitions : Setting → Reader (List Def)
-  definitions s = λ ts. definitions_from (length ts) s [] ts
+  -- one or more definitions
+  abbrev pub definitions : Setting → Reader (List Def)
+  definitions s = gathered (ask (sees s m.Name)) (definition s) put_last []
 
   unfoldable pub local : Setting → Reader Node
   local s = do
     place ← take
     ds ← definitions s
+    expect s stop.Expression m.In
     body ← part s
     pure (node (form.Let ds) (body ∷ []) place)
 
   -- ---- junction lists
 
+  -- a bullet and its item
+  unfoldable pub bulleted : Setting → Reader Node
+  bulleted s = take >> part s
+
   -- the items from a bullet on: each is an expression right of the bullets' column, and the list goes on exactly where the same
   -- sign comes next in that column
-  unfoldable pub items_from : ℕ → Setting → Mark → List Node → Reader (List Node)
-  items_from zero s k found = refuse s stop.Expression
-  items_from (suc n) s k found = take >>= (λ _. part s >>= (λ x ts.
-      let more = items_from n s k (found ++ x ∷ []) ts in
-      if nat_eq (here ts).column s.region && same_mark (mark ts) k then more else Ok (found ++ x ∷ [], ts)))
-
-  unfoldable pub items : Setting → Mark → Reader (List Node)
-  items s k = λ ts. items_from (length ts) s k [] ts
+  abbrev pub items : Setting → Mark → Reader (List Node)
+  items s k = gathered (ask (sees_bullet s k)) (bulleted s) put_last []
 
   unfoldable pub junction : Bool → Mark → Setting → Reader Node
   junction all k s = λ ts. ((λ xs. node (form.Junction all) xs (here ts)) <$> items (right_of (here ts).column s) k) ts
@@ -725,28 +698,23 @@ unfoldable pub nested : ℕ → ChainReader
 nested zero n s waits ts = ([], Err (too_deep s ts))
 nested (suc left) n s waits ts = chain_from left (nested left) n s waits ts
 
--- the nestings that an expression may have round a token of it
-abbrev pub most_nestings : ℕ
-most_nestings = 200
+-- how many nestings may still begin where so many stand round
+abbrev pub nestings_left : ℕ → ℕ
+nestings_left depth = suc (MOST_NESTINGS - depth)
 
 -- an expression with so many nestings round it
 abbrev pub expression : ℕ → Setting → Reader Node
-expression depth s = λ ts. finished (nested (suc (most_nestings - depth)) (length ts) s true ts)
+expression depth s = λ ts. finished (nested (nestings_left depth) (length ts) s true ts)
 
 -- what is round an expression that stands in no bracket
 abbrev pub outermost : ℕ → Setting
 outermost region = record { region = region; around = around.Other; has_at = false }
 
 -- the node, and the place in the list of the token after it
-abbrev pub located : List Token → Outcome Node → Result (Node × ℕ) SynFault
+abbrev pub located : List Token → Outcome Node → Result (Node × ℕ) Fault
 located ts (Ok p) = Ok (p.0, length ts - length p.1)
 located ts (Err e) = Err e
 
 -- the reading of an expression that begins at a place of a list of tokens, in a region, with so many nestings round it
-unfoldable pub reading : List Token → ℕ → ℕ → ℕ → Result (Node × ℕ) SynFault
+unfoldable pub reading : List Token → ℕ → ℕ → ℕ → Result (Node × ℕ) Fault
 reading ts from region depth = located ts (expression depth (outermost region) (drop from ts))
-
--- what a function that reads an expression ensures: this reading, unless memory fails
-abbrev pub Reads : Result (Node × ℕ) SynFault → Result (Node × ℕ) SynFault → Type 0
-Reads (Ok p) r = r ≡ Ok p
-Reads (Err e) r = e ≢ fault.Memory → r ≡ Err e

@@ -22,10 +22,10 @@ use Rattle.operator_chain.specs.declared.chain.Piece.{Piece}
 use Rattle.operator_chain.specs.declared.chain.Piece.TheVariants as piece
 use Rattle.operator_chain.specs.Tree.{Tree, node_of, flat, is_right}
 use Rattle.operator_chain.specs.Listed.{AreListed}
-use Rattle.layout_parser.specs.declared.mark.Mark.{Mark}
-use Rattle.layout_parser.specs.declared.mark.Mark.TheVariants as m
-use Rattle.layout_parser.specs.Marks.{Text, mark_of, spelling}
-use Rattle.layout_parser.specs.Input.{Tokens, literal_form, first}
+use Rattle.token_reader.specs.declared.mark.Mark.{Mark}
+use Rattle.token_reader.specs.declared.mark.Mark.TheVariants as m
+use Rattle.token_reader.specs.Marks.{Text, mark_of, spelling}
+use Rattle.token_reader.specs.Input.{Tokens, literal_form, first}
 use Rattle.layout_parser.specs.Reading.{node, group, operator_at}
 
 -- ---- symbols
@@ -67,14 +67,17 @@ Fits (expression region has_at n) t = ⊥
 abbrev pub MayUse : ℕ → Token → Type 0
 MayUse region t = (nat_lt region t.place.column ≡ true) × (is_last t.tok ≡ false)
 
--- these parts, of which there is one at least, with this mark between
-abbrev pub between : Mark → Symbols → List Symbols → Symbols
-between k x [] = x
-between k x (y ∷ ys) = x ++ sign k ∷ between k y ys
+-- these parts, of which there is one at least, with these symbols between
+abbrev pub between : Symbols → Symbols → List Symbols → Symbols
+between sep x [] = x
+between sep x (y ∷ ys) = x ++ (sep ++ between sep y ys)
+
+abbrev pub comma : Symbols
+comma = sign m.Comma ∷ []
 
 -- one or more names, with commas between
 abbrev pub names : Decl → List Decl → Symbols
-names d ds = between m.Comma (declared d ∷ []) (map (λ x. declared x ∷ []) ds)
+names d ds = between comma (declared d ∷ []) (map (λ x. declared x ∷ []) ds)
 
 -- a definition's parameters in parentheses, where it has any
 abbrev pub parameters : List Decl → Symbols
@@ -142,7 +145,7 @@ module _ (region : ℕ) (has_at : Bool) where
 
   -- one or more expressions, with commas between
   abbrev pub expressions : Node → List Node → Symbols
-  expressions x xs = between m.Comma (same x ∷ []) (map (λ y. same y ∷ []) xs)
+  expressions x xs = between comma (same x ∷ []) (map (λ y. same y ∷ []) xs)
 
   -- ---- the pieces of a chain
 
@@ -168,30 +171,29 @@ module _ (region : ℕ) (has_at : Bool) where
   field k f = declared f.0 ∷ sign k ∷ same f.1 ∷ []
 
   abbrev pub fields : Mark → Decl × Node → List (Decl × Node) → Symbols
-  fields k f fs = between m.Comma (field k f) (map (field k) fs)
+  fields k f fs = between comma (field k f) (map (field k) fs)
 
   -- `[e]` or `.h`
   abbrev pub key_symbols : Key → Symbols
   key_symbols (key.At e) = sign m.OpenSquare ∷ same e ∷ sign m.CloseSquare ∷ []
   key_symbols (key.Field h) = sign m.Dot ∷ field_name h ∷ []
 
-  abbrev pub keys : List Key → Symbols
-  keys [] = []
-  keys (k ∷ ks) = key_symbols k ++ keys ks
+  abbrev pub keys : Key → List Key → Symbols
+  keys k ks = between [] (key_symbols k) (map key_symbols ks)
 
   -- `!path = e`; `@` has a meaning in e
   abbrev pub update : Update → Symbols
-  update u = sign m.Bang ∷ (keys (u.0 ∷ u.1) ++ sign m.Equal ∷ expression region true u.2 ∷ [])
+  update u = sign m.Bang ∷ (keys u.0 u.1 ++ sign m.Equal ∷ expression region true u.2 ∷ [])
 
   abbrev pub updates : Update → List Update → Symbols
-  updates u us = between m.Comma (update u) (map update us)
+  updates u us = between comma (update u) (map update us)
 
   -- `x, .., y \in S`
   abbrev pub bound : Bound → Symbols
   bound b = names b.0 b.1 ++ sign m.Belongs ∷ same b.2 ∷ []
 
   abbrev pub bounds : Bound → List Bound → Symbols
-  bounds b bs = between m.Comma (bound b) (map bound bs)
+  bounds b bs = between comma (bound b) (map bound bs)
 
   -- the set of the name of a CHOOSE
   abbrev pub set_of : Option Node → Symbols
@@ -202,15 +204,14 @@ module _ (region : ℕ) (has_at : Bool) where
   arm a = same a.0 ∷ sign m.Arrow ∷ same a.1 ∷ []
 
   abbrev pub arms : Arm → List Arm → Symbols
-  arms a more = between m.Always (arm a) (map arm more)
+  arms a more = between (sign m.Always ∷ []) (arm a) (map arm more)
 
   -- `name(parameters) == body`
   abbrev pub definition : Definition → Symbols
   definition d = declared d.0 ∷ (parameters d.1 ++ sign m.Defines ∷ same d.2 ∷ [])
 
-  abbrev pub definitions : List Definition → Symbols
-  definitions [] = []
-  definitions (d ∷ ds) = definition d ++ definitions ds
+  abbrev pub definitions : Definition → List Definition → Symbols
+  definitions d ds = between [] (definition d) (map definition ds)
 
   -- the items of a junction list after the first, with their bullets, in one column, and no further bullet there
   abbrev pub items : Mark → ℕ → List Node → Symbols
@@ -283,7 +284,7 @@ module _ (region : ℕ) (has_at : Bool) where
         (sign_at m.Case place ∷ (arms a more ++ sign m.Always ∷ sign m.Other ∷ sign m.Arrow ∷ same e ∷ []))
     local : (d : Definition) (ds : List Definition) (body : Node) (place : Place)
         → Operand (node (form.Let (map def_of (d ∷ ds))) (body ∷ []) place)
-        (sign_at m.Let place ∷ (definitions (d ∷ ds) ++ sign m.In ∷ same body ∷ []))
+        (sign_at m.Let place ∷ (definitions d ds ++ sign m.In ∷ same body ∷ []))
     junction : (all : Bool) (x : Node) (xs : List Node) (place : Place)
         → Operand (node (form.Junction all) (x ∷ xs) place)
         (sign_at (junction_mark all) place ∷ expression place.column has_at x ∷ items (junction_mark all) place.column xs)

@@ -1,123 +1,105 @@
 //! Quantifiers and CHOOSE.
 
 ghost use Rattle.std.specs.Prelude.{◌≡◌};
-ghost use Rattle.layout_parser.specs.Input as input;
-ghost use Rattle.layout_parser.specs.Input.{Reads};
+ghost use Rattle.token_reader.specs.Input as input;
+ghost use Rattle.tla_ast.specs.Answers.{Reads};
 ghost use Rattle.layout_parser.specs.Reading as spec;
 ghost use Rattle.layout_parser.specs.Nests.{Nests, Flats, ended};
 
 use crate::build::{both, group, one, whole};
-use crate::cursor::Cursor;
 use crate::flat::Flat;
 use crate::grammar::Grammar;
-use crate::held::{Held, HeldItems};
-use crate::mark::Mark;
-use crate::setting::{Setting, Stop};
 use core_expr::Memory;
 use sqlite_items::Items;
 use std::alloc::Global;
-use tla_ast::{Decl, Form, Group, Node, SynFault};
-
-/// What follows a bound name.
-#[derive(Drop)]
-pub enum After {
-    /// A further name of the group comes, after these.
-    Name(Items<Decl>),
-    /// The group is whole, and another comes.
-    Group(Held<Group>),
-    /// The group is whole, and it is the last.
-    Last(Held<Group>),
-}
-
-/// What follows the set of a group.
-#[tactic(auto, unfolding(crate::specs::Reading::after_set))]
-fn after_set(
-    alloc: Global,
-    cursor: &mut Cursor<'_>,
-    setting: Setting,
-    group: Held<Group>,
-) -> Result<After, SynFault>
-    ensures { Reads (spec.after_set setting group cursor.old) result cursor.new }
-{
-    if cursor.eat(setting, Mark::Comma) {
-        return Ok(After::Group(group));
-    }
-    if cursor.eat(setting, Mark::Colon) {
-        return Ok(After::Last(group));
-    }
-    Err(cursor.refusal(alloc, setting, Stop::Expression))
-}
+use tla_ast::{Decl, Fault, Form, Group, Node};
+use token_reader::{Cursor, Mark, Setting, Stop, names};
 
 impl<F: Fn(Global, &mut Cursor<'_>, usize, usize, Setting, bool) -> Result<Flat, Memory>> Grammar<
     F,
 > {
-    /// The set of a group of bound names.
+    /// The `\\in` and the set of a group of names.
     #[tactic(auto, unfolding(crate::specs::Reading::bound_set))]
     fn bound_set(
         &self,
         cursor: &mut Cursor<'_>,
         setting: Setting,
         names: Items<Decl>,
-    ) -> Result<Held<Group>, SynFault>
+    ) -> Result<Group, Fault>
         requires { Nests self.now.left (F.pre self.now.read) (F.post self.now.read) }
         ensures { Reads (spec.bound_set self.now.left (spec.nested self.now.left) setting names cursor.old) result cursor.new }
     {
+        cursor.expect(self.alloc, setting, Stop::Other, Mark::Belongs)?;
         let set = self.part(cursor, setting)?;
         Ok(group(self.alloc, names, Some(set))?)
     }
 
-    /// One or more groups of names with a set, or one group without a set, and the `:`.
-    fn groups(
+    /// A group of names with a set.
+    #[tactic(auto, unfolding(crate::specs::Reading::bound))]
+    fn bound(&self, cursor: &mut Cursor<'_>, setting: Setting) -> Result<Group, Fault>
+        requires { Nests self.now.left (F.pre self.now.read) (F.post self.now.read) }
+        ensures { Reads (spec.bound self.now.left (spec.nested self.now.left) setting cursor.old) result cursor.new }
+    {
+        let names = names(self.alloc, cursor, setting, Stop::Bound)?;
+        self.bound_set(cursor, setting, names)
+    }
+
+    /// One or more groups with sets, with commas between, after those found.
+    #[tactic(auto, using(token_reader::proofs::Turns::turn), unfolding(token_reader::specs::Lists::gathered, token_reader::specs::Lists::gathered_from))]
+    fn further_bounds(
         &self,
         cursor: &mut Cursor<'_>,
         setting: Setting,
-    ) -> Result<HeldItems<Group>, SynFault>
+        mut found: Items<Group>,
+    ) -> Result<Items<Group>, Fault>
         requires { Nests self.now.left (F.pre self.now.read) (F.post self.now.read) }
-        ensures { Reads (spec.groups self.now.left (spec.nested self.now.left) setting cursor.old) result cursor.new }
+        ensures { Reads (spec.further_bounds self.now.left (spec.nested self.now.left) setting found cursor.old) result cursor.new }
     {
-        let mut groups = HeldItems::new(self.alloc);
-        let mut names = Items::new(self.alloc);
         for _turn in 0..cursor.left() {
-            names.push(cursor.declared(self.alloc, setting, Stop::Bound)?)?;
-            match self.after_name(cursor, setting, names, groups.is_empty())? {
-                After::Name(more) => names = more,
-                After::Group(group) => {
-                    groups.push(group)?;
-                    names = Items::new(self.alloc);
-                }
-                After::Last(group) => {
-                    groups.push(group)?;
-                    return Ok(groups);
-                }
+            found.push(self.bound(cursor, setting)?)?;
+            if !cursor.eat(setting, Mark::Comma) {
+                return Ok(found);
             }
         }
-        Err(cursor.refusal(self.alloc, setting, Stop::Other))
+        Err(cursor.exhausted())
     }
 
-    /// What follows a bound name: a comma, a set, or the `:`, which may come without a set where this is the first group.
-    #[tactic(auto, unfolding(crate::specs::Reading::after_name))]
-    fn after_name(
+    /// One or more groups with sets, of which the first has these names.
+    #[tactic(auto, unfolding(crate::specs::Reading::bounds))]
+    fn bounds(
         &self,
         cursor: &mut Cursor<'_>,
         setting: Setting,
         names: Items<Decl>,
-        is_first: bool,
-    ) -> Result<After, SynFault>
+    ) -> Result<Items<Group>, Fault>
         requires { Nests self.now.left (F.pre self.now.read) (F.post self.now.read) }
-        ensures { Reads (spec.after_name self.now.left (spec.nested self.now.left) setting names is_first cursor.old) result cursor.new }
+        ensures { Reads (spec.bounds self.now.left (spec.nested self.now.left) setting names cursor.old) result cursor.new }
     {
+        let group = self.bound_set(cursor, setting, names)?;
+        let found = one(self.alloc, group)?;
         if cursor.eat(setting, Mark::Comma) {
-            return Ok(After::Name(names));
+            self.further_bounds(cursor, setting, found)
+        } else {
+            Ok(found)
         }
-        if cursor.eat(setting, Mark::Belongs) {
-            let group = self.bound_set(cursor, setting, names)?;
-            return after_set(self.alloc, cursor, setting, group);
+    }
+
+    /// One or more groups with sets, or one group without a set where the `:` comes after its names.
+    #[tactic(auto, unfolding(crate::specs::Reading::groups_of))]
+    fn groups_of(
+        &self,
+        cursor: &mut Cursor<'_>,
+        setting: Setting,
+        names: Items<Decl>,
+    ) -> Result<Items<Group>, Fault>
+        requires { Nests self.now.left (F.pre self.now.read) (F.post self.now.read) }
+        ensures { Reads (spec.groups_of self.now.left (spec.nested self.now.left) setting names cursor.old) result cursor.new }
+    {
+        if !cursor.sees(setting, Mark::Colon) {
+            return self.bounds(cursor, setting, names);
         }
-        if both(cursor.sees(setting, Mark::Colon), is_first) {
-            cursor.advance();
-            return Ok(After::Last(group(self.alloc, names, None)?));
-        }
-        Err(cursor.refusal(self.alloc, setting, Stop::Other))
+        let group = group(self.alloc, names, None)?;
+        Ok(one(self.alloc, group)?)
     }
 
     /// A quantifier.
@@ -127,25 +109,22 @@ impl<F: Fn(Global, &mut Cursor<'_>, usize, usize, Setting, bool) -> Result<Flat,
         cursor: &mut Cursor<'_>,
         all: bool,
         setting: Setting,
-    ) -> Result<Held<Node>, SynFault>
+    ) -> Result<Node, Fault>
         requires { Nests self.now.left (F.pre self.now.read) (F.post self.now.read) }
         ensures { Reads (spec.quantifier self.now.left (spec.nested self.now.left) all setting cursor.old) result cursor.new }
     {
         let place = cursor.take();
-        let groups = self.groups(cursor, setting)?;
+        let names = names(self.alloc, cursor, setting, Stop::Bound)?;
+        let groups = self.groups_of(cursor, setting, names)?;
+        cursor.expect(self.alloc, setting, Stop::Expression, Mark::Colon)?;
         let body = self.part(cursor, setting)?;
-        let parts = HeldItems::of(self.alloc, body)?;
-        let groups = groups.into_items();
+        let parts = one(self.alloc, body)?;
         Ok(whole(Form::Quant { all, groups }, parts, place))
     }
 
     /// The set of the name of a CHOOSE, and the `:`.
     #[tactic(auto, unfolding(crate::specs::Reading::domain))]
-    fn domain(
-        &self,
-        cursor: &mut Cursor<'_>,
-        setting: Setting,
-    ) -> Result<Option<Held<Node>>, SynFault>
+    fn domain(&self, cursor: &mut Cursor<'_>, setting: Setting) -> Result<Option<Node>, Fault>
         requires { Nests self.now.left (F.pre self.now.read) (F.post self.now.read) }
         ensures { Reads (spec.domain self.now.left (spec.nested self.now.left) setting cursor.old) result cursor.new }
     {
@@ -160,7 +139,7 @@ impl<F: Fn(Global, &mut Cursor<'_>, usize, usize, Setting, bool) -> Result<Flat,
 
     /// CHOOSE.
     #[tactic(auto, unfolding(crate::specs::Reading::choose))]
-    pub fn choose(&self, cursor: &mut Cursor<'_>, setting: Setting) -> Result<Held<Node>, SynFault>
+    pub fn choose(&self, cursor: &mut Cursor<'_>, setting: Setting) -> Result<Node, Fault>
         requires { Nests self.now.left (F.pre self.now.read) (F.post self.now.read) }
         ensures { Reads (spec.choose self.now.left (spec.nested self.now.left) setting cursor.old) result cursor.new }
     {
@@ -168,8 +147,8 @@ impl<F: Fn(Global, &mut Cursor<'_>, usize, usize, Setting, bool) -> Result<Flat,
         let bound = cursor.declared(self.alloc, setting, Stop::Bound)?;
         let set = self.domain(cursor, setting)?;
         let body = self.part(cursor, setting)?;
-        let parts = HeldItems::of(self.alloc, body)?;
+        let parts = one(self.alloc, body)?;
         let group = group(self.alloc, one(self.alloc, bound)?, set)?;
-        Ok(whole(Form::Choose(group.into_inner()), parts, place))
+        Ok(whole(Form::Choose(group), parts, place))
     }
 }

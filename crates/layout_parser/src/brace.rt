@@ -1,25 +1,23 @@
 //! Braces.
 
 ghost use Rattle.std.specs.Prelude.{◌≡◌, true};
-ghost use Rattle.layout_parser.specs.Input as input;
+ghost use Rattle.token_reader.specs.Input as input;
 ghost use Rattle.operator_chain.specs.Chain.{IsChain};
 ghost use Rattle.operator_chain.specs.Listed.{AreListed};
-ghost use Rattle.layout_parser.specs.Input.{Reads, and_then};
+ghost use Rattle.tla_ast.specs.Answers.{Reads};
+ghost use Rattle.token_reader.specs.Input.{and_then};
 ghost use Rattle.layout_parser.specs.Reading as spec;
 ghost use Rattle.layout_parser.specs.Nests.{Nests, Flats, ended};
 
-use crate::build::{binary, leaf, unary, whole};
-use crate::cursor::Cursor;
+use crate::build::{binary, leaf, one, unary, whole};
 use crate::flat::Flat;
 use crate::grammar::{Grammar, finished};
-use crate::held::{Held, HeldItems};
-use crate::mark::Mark;
-use crate::member::{Bound, element, is_whole, put_before};
-use crate::setting::{Around, Setting, Stop};
+use crate::member::{Bound, element, ends_at, put_before};
 use core_expr::{Memory, Text};
 use operator_chain::Piece;
 use std::alloc::Global;
-use tla_ast::{Form, Node, Place, SynFault};
+use tla_ast::{Fault, Form, Node, Place};
+use token_reader::{Around, Cursor, Mark, Setting, Stop};
 
 fn is_tuple(around: Around) -> bool
     ensures { result ≡ input.is_tuple around }
@@ -52,12 +50,7 @@ impl<F: Fn(Global, &mut Cursor<'_>, usize, usize, Setting, bool) -> Result<Flat,
 > {
     /// `{e : x \in S}`, after the `:`.
     #[tactic(auto, unfolding(crate::specs::Reading::image))]
-    fn image(
-        &self,
-        cursor: &mut Cursor<'_>,
-        setting: Setting,
-        value: Held<Node>,
-    ) -> Result<Held<Node>, SynFault>
+    fn image(&self, cursor: &mut Cursor<'_>, setting: Setting, value: Node) -> Result<Node, Fault>
         requires { Nests self.now.left (F.pre self.now.read) (F.post self.now.read) }
         ensures { Reads (spec.image self.now.left (spec.nested self.now.left) setting value cursor.old) result cursor.new }
     {
@@ -69,7 +62,7 @@ impl<F: Fn(Global, &mut Cursor<'_>, usize, usize, Setting, bool) -> Result<Flat,
         Ok(binary(self.alloc, Form::Image(bound.name), set, value, bound.place)?)
     }
 
-    /// `{x \in S : P}`, after the `:`.
+    /// `{x \in S : P}`, after the set.
     #[tactic(auto, unfolding(crate::specs::Reading::filter))]
     fn filter(
         &self,
@@ -77,12 +70,13 @@ impl<F: Fn(Global, &mut Cursor<'_>, usize, usize, Setting, bool) -> Result<Flat,
         setting: Setting,
         name: Text,
         place: Place,
-        set: Held<Node>,
-    ) -> Result<Held<Node>, SynFault>
+        set: Node,
+    ) -> Result<Node, Fault>
         requires { Nests self.now.left (F.pre self.now.read) (F.post self.now.read) }
         ensures { Reads (spec.filter self.now.left (spec.nested self.now.left) setting name place set cursor.old) result cursor.new }
     {
         let inside = setting.within(Around::Colon);
+        cursor.expect(self.alloc, setting, Stop::Expression, Mark::Colon)?;
         let condition = self.part(cursor, inside)?;
         cursor.expect(self.alloc, inside, Stop::Expression, Mark::CloseBrace)?;
         Ok(binary(self.alloc, Form::Filter(name), set, condition, place)?)
@@ -95,12 +89,12 @@ impl<F: Fn(Global, &mut Cursor<'_>, usize, usize, Setting, bool) -> Result<Flat,
         cursor: &mut Cursor<'_>,
         setting: Setting,
         place: Place,
-        element: Held<Node>,
-    ) -> Result<Held<Node>, SynFault>
+        element: Node,
+    ) -> Result<Node, Fault>
         requires { Nests self.now.left (F.pre self.now.read) (F.post self.now.read) }
         ensures { Reads (spec.elements self.now.left (spec.nested self.now.left) setting place element cursor.old) result cursor.new }
     {
-        let first = HeldItems::of(self.alloc, element)?;
+        let first = one(self.alloc, element)?;
         let parts = self.expressions(cursor, setting, first)?;
         cursor.expect(self.alloc, setting, Stop::Expression, Mark::CloseBrace)?;
         Ok(whole(Form::Enum, parts, place))
@@ -113,8 +107,8 @@ impl<F: Fn(Global, &mut Cursor<'_>, usize, usize, Setting, bool) -> Result<Flat,
         cursor: &mut Cursor<'_>,
         setting: Setting,
         place: Place,
-        element: Held<Node>,
-    ) -> Result<Held<Node>, SynFault>
+        element: Node,
+    ) -> Result<Node, Fault>
         requires { Nests self.now.left (F.pre self.now.read) (F.post self.now.read) }
         ensures { Reads (spec.brace_end self.now.left (spec.nested self.now.left) setting place element cursor.old) result cursor.new }
     {
@@ -139,7 +133,7 @@ impl<F: Fn(Global, &mut Cursor<'_>, usize, usize, Setting, bool) -> Result<Flat,
         place: Place,
         bound: Bound,
         set: Flat,
-    ) -> Result<Held<Node>, SynFault>
+    ) -> Result<Node, Fault>
         requires nests { Nests self.now.left (F.pre self.now.read) (F.post self.now.read) }
         requires set { IsChain true set.pieces.items × AreListed set.pieces.items }
         ensures { Reads (and_then (spec.finished (spec.after_member bound.name bound.place bound.sign (set.pieces.items, ended set.fault cursor.old))) (spec.brace_end self.now.left (spec.nested self.now.left) setting place)) result cursor.new }
@@ -155,18 +149,17 @@ impl<F: Fn(Global, &mut Cursor<'_>, usize, usize, Setting, bool) -> Result<Flat,
         cursor: &mut Cursor<'_>,
         setting: Setting,
         place: Place,
-    ) -> Result<Held<Node>, SynFault>
+    ) -> Result<Node, Fault>
         requires { Nests self.now.left (F.pre self.now.read) (F.post self.now.read) }
         ensures { Reads (spec.member_brace self.now.left (spec.nested self.now.left) setting place cursor.old) result cursor.new }
     {
         let bound = Bound::read(self.alloc, cursor)?;
         let most = cursor.left();
         let set = self.inner(cursor, most, setting, true)?;
-        if !is_whole(self.alloc, cursor, setting, &set, Mark::Colon)? {
+        if !ends_at(cursor, setting, &set, Mark::Colon) {
             return self.other_member_brace(cursor, setting, place, bound, set);
         }
         let set = finished(self.alloc, set)?;
-        cursor.advance();
         self.filter(cursor, setting, bound.name, bound.place, set)
     }
 
@@ -177,15 +170,15 @@ impl<F: Fn(Global, &mut Cursor<'_>, usize, usize, Setting, bool) -> Result<Flat,
         cursor: &mut Cursor<'_>,
         setting: Setting,
         place: Place,
-        operand: Held<Node>,
-    ) -> Result<Held<Node>, SynFault>
+        operand: Node,
+    ) -> Result<Node, Fault>
         requires { Nests self.now.left (F.pre self.now.read) (F.post self.now.read) }
         ensures { Reads (spec.tuple_brace_after self.now.left (spec.nested self.now.left) setting place operand cursor.old) result cursor.new }
     {
-        let setting = after_first(cursor, setting, operand.get());
+        let setting = after_first(cursor, setting, &operand);
         let most = cursor.left();
         let mut flat = self.inner(cursor, most, setting, false)?;
-        put_before(&mut flat.pieces, Piece::Operand(operand.into_inner()))?;
+        put_before(&mut flat.pieces, Piece::Operand(operand))?;
         let element = finished(self.alloc, flat)?;
         self.brace_end(cursor, setting, place, element)
     }
@@ -197,7 +190,7 @@ impl<F: Fn(Global, &mut Cursor<'_>, usize, usize, Setting, bool) -> Result<Flat,
         cursor: &mut Cursor<'_>,
         setting: Setting,
         place: Place,
-    ) -> Result<Held<Node>, SynFault>
+    ) -> Result<Node, Fault>
         requires { Nests self.now.left (F.pre self.now.read) (F.post self.now.read) }
         ensures { Reads (spec.tuple_brace self.now.left (spec.nested self.now.left) setting place cursor.old) result cursor.new }
     {
@@ -207,7 +200,7 @@ impl<F: Fn(Global, &mut Cursor<'_>, usize, usize, Setting, bool) -> Result<Flat,
         }
         match (pieces.pop_front(), pieces.is_empty()) {
             (Some(Piece::Operand(operand)), true) => {
-                self.tuple_brace_after(cursor, setting, place, Held::new(operand))
+                self.tuple_brace_after(cursor, setting, place, operand)
             }
             _ => Err(cursor.refusal(self.alloc, setting, Stop::Operand)),
         }
@@ -220,7 +213,7 @@ impl<F: Fn(Global, &mut Cursor<'_>, usize, usize, Setting, bool) -> Result<Flat,
         cursor: &mut Cursor<'_>,
         setting: Setting,
         place: Place,
-    ) -> Result<Held<Node>, SynFault>
+    ) -> Result<Node, Fault>
         requires { Nests self.now.left (F.pre self.now.read) (F.post self.now.read) }
         ensures { Reads (spec.brace_from self.now.left (spec.nested self.now.left) setting place cursor.old) result cursor.new }
     {
@@ -239,7 +232,7 @@ impl<F: Fn(Global, &mut Cursor<'_>, usize, usize, Setting, bool) -> Result<Flat,
 
     /// `{e, ..}`, `{x \in S : P}`, `{e : x \in S}`.
     #[tactic(auto, unfolding(crate::specs::Reading::brace))]
-    pub fn brace(&self, cursor: &mut Cursor<'_>, setting: Setting) -> Result<Held<Node>, SynFault>
+    pub fn brace(&self, cursor: &mut Cursor<'_>, setting: Setting) -> Result<Node, Fault>
         requires { Nests self.now.left (F.pre self.now.read) (F.post self.now.read) }
         ensures { Reads (spec.brace self.now.left (spec.nested self.now.left) setting cursor.old) result cursor.new }
     {

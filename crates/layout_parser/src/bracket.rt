@@ -1,32 +1,31 @@
 //! Names with arguments, parentheses, angle brackets, subscripts.
 
 ghost use Rattle.std.specs.Prelude.{◌≡◌};
-ghost use Rattle.layout_parser.specs.Input as input;
-ghost use Rattle.layout_parser.specs.Input.{Reads};
+ghost use Rattle.token_reader.specs.Input as input;
+ghost use Rattle.tla_ast.specs.Answers.{Reads};
 ghost use Rattle.layout_parser.specs.Reading as spec;
 ghost use Rattle.layout_parser.specs.Nests.{Nests, Flats, ended};
 
 use crate::build::{binary, both, leaf, whole};
-use crate::cursor::Cursor;
 use crate::flat::Flat;
 use crate::grammar::Grammar;
-use crate::held::{Held, HeldItems};
-use crate::mark::Mark;
-use crate::setting::{Around, Setting, Stop};
 use core_expr::{Memory, Text};
+use sqlite_items::Items;
 use std::alloc::Global;
-use tla_ast::{Form, Node, Place, SynFault};
+use tla_ast::{Fault, Form, Node, Place};
+use token_reader::{Around, Cursor, Mark, Setting, Stop};
 
 impl<F: Fn(Global, &mut Cursor<'_>, usize, usize, Setting, bool) -> Result<Flat, Memory>> Grammar<
     F,
 > {
     /// One or more expressions, with commas between, after those found.
+    #[tactic(auto, using(token_reader::proofs::Turns::turn), unfolding(token_reader::specs::Lists::gathered, token_reader::specs::Lists::gathered_from))]
     pub fn expressions(
         &self,
         cursor: &mut Cursor<'_>,
         setting: Setting,
-        mut found: HeldItems<Node>,
-    ) -> Result<HeldItems<Node>, SynFault>
+        mut found: Items<Node>,
+    ) -> Result<Items<Node>, Fault>
         requires { Nests self.now.left (F.pre self.now.read) (F.post self.now.read) }
         ensures { Reads (spec.expressions self.now.left (spec.nested self.now.left) setting found cursor.old) result cursor.new }
     {
@@ -36,29 +35,25 @@ impl<F: Fn(Global, &mut Cursor<'_>, usize, usize, Setting, bool) -> Result<Flat,
                 return Ok(found);
             }
         }
-        Err(cursor.refusal(self.alloc, setting, Stop::Expression))
+        Err(cursor.exhausted())
     }
 
     /// The arguments of a name.
     #[tactic(auto, unfolding(crate::specs::Reading::arguments))]
-    fn arguments(
-        &self,
-        cursor: &mut Cursor<'_>,
-        setting: Setting,
-    ) -> Result<HeldItems<Node>, SynFault>
+    fn arguments(&self, cursor: &mut Cursor<'_>, setting: Setting) -> Result<Items<Node>, Fault>
         requires { Nests self.now.left (F.pre self.now.read) (F.post self.now.read) }
         ensures { Reads (spec.arguments self.now.left (spec.nested self.now.left) setting cursor.old) result cursor.new }
     {
         let inside = setting.within(Around::Other);
         cursor.opening(self.left)?;
-        let found = self.expressions(cursor, inside, HeldItems::new(self.alloc))?;
+        let found = self.expressions(cursor, inside, Items::new(self.alloc))?;
         cursor.expect(self.alloc, inside, Stop::Expression, Mark::CloseParen)?;
         Ok(found)
     }
 
     /// A name, with the arguments that follow it at once.
     #[tactic(auto, unfolding(crate::specs::Reading::named))]
-    pub fn named(&self, cursor: &mut Cursor<'_>, setting: Setting) -> Result<Held<Node>, SynFault>
+    pub fn named(&self, cursor: &mut Cursor<'_>, setting: Setting) -> Result<Node, Fault>
         requires { Nests self.now.left (F.pre self.now.read) (F.post self.now.read) }
         ensures { Reads (spec.named self.now.left (spec.nested self.now.left) setting cursor.old) result cursor.new }
     {
@@ -73,11 +68,7 @@ impl<F: Fn(Global, &mut Cursor<'_>, usize, usize, Setting, bool) -> Result<Flat,
 
     /// An expression in parentheses.
     #[tactic(auto, unfolding(crate::specs::Reading::parenthesized))]
-    pub fn parenthesized(
-        &self,
-        cursor: &mut Cursor<'_>,
-        setting: Setting,
-    ) -> Result<Held<Node>, SynFault>
+    pub fn parenthesized(&self, cursor: &mut Cursor<'_>, setting: Setting) -> Result<Node, Fault>
         requires { Nests self.now.left (F.pre self.now.read) (F.post self.now.read) }
         ensures { Reads (spec.parenthesized self.now.left (spec.nested self.now.left) setting cursor.old) result cursor.new }
     {
@@ -90,7 +81,7 @@ impl<F: Fn(Global, &mut Cursor<'_>, usize, usize, Setting, bool) -> Result<Flat,
 
     /// A tuple in the place of a subscript.
     #[tactic(auto, unfolding(crate::specs::Reading::tuple))]
-    fn tuple(&self, cursor: &mut Cursor<'_>, setting: Setting) -> Result<Held<Node>, SynFault>
+    fn tuple(&self, cursor: &mut Cursor<'_>, setting: Setting) -> Result<Node, Fault>
         requires { Nests self.now.left (F.pre self.now.read) (F.post self.now.read) }
         ensures { Reads (spec.tuple self.now.left (spec.nested self.now.left) setting cursor.old) result cursor.new }
     {
@@ -99,18 +90,14 @@ impl<F: Fn(Global, &mut Cursor<'_>, usize, usize, Setting, bool) -> Result<Flat,
         if cursor.eat(inside, Mark::CloseAngle) {
             return Ok(leaf(self.alloc, Form::Tuple, place));
         }
-        let parts = self.expressions(cursor, inside, HeldItems::new(self.alloc))?;
+        let parts = self.expressions(cursor, inside, Items::new(self.alloc))?;
         cursor.expect(self.alloc, inside, Stop::Expression, Mark::CloseAngle)?;
         Ok(whole(Form::Tuple, parts, place))
     }
 
     /// A subscript: an identifier, a tuple or an expression in parentheses.
     #[tactic(auto, unfolding(crate::specs::Reading::subscript))]
-    pub fn subscript(
-        &self,
-        cursor: &mut Cursor<'_>,
-        setting: Setting,
-    ) -> Result<Held<Node>, SynFault>
+    pub fn subscript(&self, cursor: &mut Cursor<'_>, setting: Setting) -> Result<Node, Fault>
         requires { Nests self.now.left (F.pre self.now.read) (F.post self.now.read) }
         ensures { Reads (spec.subscript self.now.left (spec.nested self.now.left) setting cursor.old) result cursor.new }
     {
@@ -135,8 +122,8 @@ impl<F: Fn(Global, &mut Cursor<'_>, usize, usize, Setting, bool) -> Result<Flat,
         cursor: &mut Cursor<'_>,
         setting: Setting,
         place: Place,
-        mut parts: HeldItems<Node>,
-    ) -> Result<Held<Node>, SynFault>
+        mut parts: Items<Node>,
+    ) -> Result<Node, Fault>
         requires { Nests self.now.left (F.pre self.now.read) (F.post self.now.read) }
         ensures { Reads (spec.angle_end self.now.left (spec.nested self.now.left) setting place parts cursor.old) result cursor.new }
     {
@@ -154,7 +141,7 @@ impl<F: Fn(Global, &mut Cursor<'_>, usize, usize, Setting, bool) -> Result<Flat,
 
     /// A tuple or `<<A>>_v`.
     #[tactic(auto, unfolding(crate::specs::Reading::angle))]
-    pub fn angle(&self, cursor: &mut Cursor<'_>, setting: Setting) -> Result<Held<Node>, SynFault>
+    pub fn angle(&self, cursor: &mut Cursor<'_>, setting: Setting) -> Result<Node, Fault>
         requires { Nests self.now.left (F.pre self.now.read) (F.post self.now.read) }
         ensures { Reads (spec.angle self.now.left (spec.nested self.now.left) setting cursor.old) result cursor.new }
     {
@@ -163,7 +150,7 @@ impl<F: Fn(Global, &mut Cursor<'_>, usize, usize, Setting, bool) -> Result<Flat,
         if cursor.eat(inside, Mark::CloseAngle) {
             return Ok(leaf(self.alloc, Form::Tuple, place));
         }
-        let parts = self.expressions(cursor, inside, HeldItems::new(self.alloc))?;
+        let parts = self.expressions(cursor, inside, Items::new(self.alloc))?;
         self.angle_end(cursor, setting, place, parts)
     }
 
@@ -174,14 +161,14 @@ impl<F: Fn(Global, &mut Cursor<'_>, usize, usize, Setting, bool) -> Result<Flat,
         cursor: &mut Cursor<'_>,
         strong: bool,
         setting: Setting,
-    ) -> Result<Held<Node>, SynFault>
+    ) -> Result<Node, Fault>
         requires { Nests self.now.left (F.pre self.now.read) (F.post self.now.read) }
         ensures { Reads (spec.fair self.now.left (spec.nested self.now.left) strong setting cursor.old) result cursor.new }
     {
         let place = cursor.take();
         let subscript = self.subscript(cursor, setting)?;
         if !cursor.sees(setting, Mark::OpenParen) {
-            return Err(cursor.refusal(self.alloc, setting, Stop::Other));
+            return Err(cursor.refusal(self.alloc, setting, Stop::Expression));
         }
         let action = self.parenthesized(cursor, setting)?;
         Ok(binary(self.alloc, Form::Fair { strong }, subscript, action, place)?)

@@ -3,7 +3,6 @@
 ghost use Rattle.std.specs.Prelude.{◌≡◌, ◌∷◌, [], ◌&&◌, ◌||◌, IfOk};
 ghost use Rattle.layout_parser.specs.Reading as spec;
 
-use crate::held::{Held, HeldItems};
 use sqlite_items::{Boxed, Items};
 use std::alloc::{AllocError, Global};
 use tla_ast::{Decl, Form, Group, Node, Place};
@@ -21,21 +20,17 @@ pub fn either(a: bool, b: bool) -> bool
 }
 
 /// A node with these parts.
-pub fn whole(form: Form, parts: HeldItems<Node>, place: Place) -> Held<Node>
+pub fn whole(form: Form, parts: Items<Node>, place: Place) -> Node
     ensures { result ≡ spec.node form parts place }
 {
-    Held::new(Node {
-        form,
-        parts: parts.into_items(),
-        place,
-    })
+    Node { form, parts, place }
 }
 
 /// A node without parts.
-pub fn leaf(alloc: Global, form: Form, place: Place) -> Held<Node>
+pub fn leaf(alloc: Global, form: Form, place: Place) -> Node
     ensures { result ≡ spec.node form [] place }
 {
-    whole(form, HeldItems::new(alloc), place)
+    whole(form, Items::new(alloc), place)
 }
 
 /// One item.
@@ -48,15 +43,10 @@ pub fn one<T: Drop>(alloc: Global, item: T) -> Result<Items<T>, AllocError>
 }
 
 /// A node with one part.
-pub fn unary(
-    alloc: Global,
-    form: Form,
-    part: Held<Node>,
-    place: Place,
-) -> Result<Held<Node>, AllocError>
+pub fn unary(alloc: Global, form: Form, part: Node, place: Place) -> Result<Node, AllocError>
     ensures { IfOk result (λ n. n ≡ spec.node form (part ∷ []) place) }
 {
-    let parts = HeldItems::of(alloc, part)?;
+    let parts = one(alloc, part)?;
     Ok(whole(form, parts, place))
 }
 
@@ -64,13 +54,13 @@ pub fn unary(
 pub fn binary(
     alloc: Global,
     form: Form,
-    left: Held<Node>,
-    right: Held<Node>,
+    left: Node,
+    right: Node,
     place: Place,
-) -> Result<Held<Node>, AllocError>
+) -> Result<Node, AllocError>
     ensures { IfOk result (λ n. n ≡ spec.node form (left ∷ right ∷ []) place) }
 {
-    let mut parts = HeldItems::of(alloc, left)?;
+    let mut parts = one(alloc, left)?;
     parts.push(right)?;
     Ok(whole(form, parts, place))
 }
@@ -79,38 +69,34 @@ pub fn binary(
 pub fn ternary(
     alloc: Global,
     form: Form,
-    first: Held<Node>,
-    second: Held<Node>,
-    third: Held<Node>,
+    first: Node,
+    second: Node,
+    third: Node,
     place: Place,
-) -> Result<Held<Node>, AllocError>
+) -> Result<Node, AllocError>
     ensures { IfOk result (λ n. n ≡ spec.node form (first ∷ second ∷ third ∷ []) place) }
 {
-    let mut parts = HeldItems::of(alloc, first)?;
+    let mut parts = one(alloc, first)?;
     parts.push(second)?;
     parts.push(third)?;
     Ok(whole(form, parts, place))
 }
 
 /// Bound names with their set, if they have one.
-pub fn group(
-    alloc: Global,
-    names: Items<Decl>,
-    domain: Option<Held<Node>>,
-) -> Result<Held<Group>, AllocError>
+pub fn group(alloc: Global, names: Items<Decl>, domain: Option<Node>) -> Result<Group, AllocError>
     ensures { IfOk result (λ g. g ≡ spec.group names domain) }
 {
     match domain {
-        None => Ok(Held::new(Group {
+        None => Ok(Group {
             names,
             domain: None,
-        })),
+        }),
         Some(set) => {
-            let set = Boxed::new(alloc, set.into_inner())?;
-            Ok(Held::new(Group {
+            let set = Boxed::new(alloc, set)?;
+            Ok(Group {
                 names,
                 domain: Some(set),
-            }))
+            })
         }
     }
 }

@@ -1,49 +1,57 @@
 //! EXCEPT.
 
 ghost use Rattle.std.specs.Prelude.{◌≡◌, Ok, IfOk, OnOk};
-ghost use Rattle.layout_parser.specs.Input as input;
-ghost use Rattle.layout_parser.specs.Input.{Reads};
+ghost use Rattle.token_reader.specs.Input as input;
+ghost use Rattle.tla_ast.specs.Answers.{Reads};
 ghost use Rattle.layout_parser.specs.Reading as spec;
 ghost use Rattle.layout_parser.specs.Nests.{Nests, Flats, ended};
 
-use crate::build::{either, whole};
-use crate::cursor::Cursor;
+use crate::build::{either, one, whole};
 use crate::flat::Flat;
 use crate::grammar::Grammar;
-use crate::held::{Held, HeldItems};
-use crate::mark::Mark;
-use crate::setting::{Setting, Stop};
 use core_expr::Memory;
 use operator_chain::{Ending, Piece};
+use sqlite_items::Items;
 use std::alloc::{AllocError, Global};
 use std::collections::VecDeque;
-use tla_ast::{Form, Key, Node, Path, Place, SynFault};
+use tla_ast::{Fault, Form, Key, Node, Path, Place};
+use token_reader::{Cursor, Mark, Setting, Stop};
 
 /// The paths of updates, and the function with the new values.
 #[derive(Drop)]
 pub struct Updates {
-    pub paths: HeldItems<Path>,
-    pub parts: HeldItems<Node>,
+    pub paths: Items<Path>,
+    pub parts: Items<Node>,
 }
 
 impl Updates {
-    fn new(alloc: Global, function: Held<Node>) -> Result<Updates, AllocError>
+    fn new(alloc: Global, function: Node) -> Result<Updates, AllocError>
         ensures { IfOk result (λ u. u ≡ spec.no_updates function) }
     {
-        let parts = HeldItems::of(alloc, function)?;
+        let parts = one(alloc, function)?;
         Ok(Updates {
-            paths: HeldItems::new(alloc),
+            paths: Items::new(alloc),
             parts,
         })
     }
 
-    fn push(&mut self, path: Held<Path>, value: Held<Node>) -> Result<(), AllocError>
-        ensures { OnOk result (self.new ≡ spec.with_update self.old path value) }
+    fn push(&mut self, path: Path, value: Node) -> Result<(), AllocError>
+        ensures { OnOk result (self.new ≡ spec.with_update self.old (path, value)) }
     {
         self.paths.push(path)?;
         self.parts.push(value)?;
         Ok(())
     }
+}
+
+/// Whether a key of a path comes next.
+fn begins_key(cursor: &Cursor<'_>, setting: Setting) -> bool
+    ensures { result ≡ spec.begins_key setting cursor.now }
+{
+    either(
+        cursor.sees(setting, Mark::OpenSquare),
+        cursor.sees(setting, Mark::Dot),
+    )
 }
 
 /// The key that a postfix operator looks like.
@@ -52,12 +60,12 @@ fn key_of(
     cursor: &Cursor<'_>,
     setting: Setting,
     ending: Ending,
-) -> Result<Held<Key>, SynFault>
+) -> Result<Key, Fault>
     ensures { Reads (spec.by_ending setting ending cursor.now) result cursor.now }
 {
     match ending {
-        Ending::Index(argument) => Ok(Held::new(Key::At(argument))),
-        Ending::Field(name) => Ok(Held::new(Key::Field(name))),
+        Ending::Index(argument) => Ok(Key::At(argument)),
+        Ending::Field(name) => Ok(Key::Field(name)),
         Ending::Prime => Err(cursor.refusal(alloc, setting, Stop::Other)),
     }
 }
@@ -68,7 +76,7 @@ fn key_in(
     cursor: &Cursor<'_>,
     setting: Setting,
     mut pieces: VecDeque<Piece>,
-) -> Result<Held<Key>, SynFault>
+) -> Result<Key, Fault>
     ensures { Reads (spec.by_key setting (pieces.items, Ok cursor.now)) result cursor.now }
 {
     match (pieces.pop_front(), pieces.is_empty()) {
@@ -82,14 +90,11 @@ impl<F: Fn(Global, &mut Cursor<'_>, usize, usize, Setting, bool) -> Result<Flat,
 > {
     /// One key of a path.
     #[tactic(auto, unfolding(crate::specs::Reading::key_of))]
-    fn key(&self, cursor: &mut Cursor<'_>, setting: Setting) -> Result<Held<Key>, SynFault>
+    fn key(&self, cursor: &mut Cursor<'_>, setting: Setting) -> Result<Key, Fault>
         requires { Nests self.now.left (F.pre self.now.read) (F.post self.now.read) }
         ensures { Reads (spec.key_of self.now.left (spec.nested self.now.left) setting cursor.old) result cursor.new }
     {
-        if !either(
-            cursor.sees(setting, Mark::OpenSquare),
-            cursor.sees(setting, Mark::Dot),
-        ) {
+        if !begins_key(cursor, setting) {
             return Err(cursor.refusal(self.alloc, setting, Stop::Other));
         }
         let Flat { pieces, fault } = self.inner(cursor, 1, setting, false)?;
@@ -100,30 +105,24 @@ impl<F: Fn(Global, &mut Cursor<'_>, usize, usize, Setting, bool) -> Result<Flat,
     }
 
     /// One or more keys.
-    fn keys(&self, cursor: &mut Cursor<'_>, setting: Setting) -> Result<HeldItems<Key>, SynFault>
+    #[tactic(auto, using(token_reader::proofs::Turns::turn), unfolding(token_reader::specs::Lists::gathered, token_reader::specs::Lists::gathered_from))]
+    fn keys(&self, cursor: &mut Cursor<'_>, setting: Setting) -> Result<Items<Key>, Fault>
         requires { Nests self.now.left (F.pre self.now.read) (F.post self.now.read) }
         ensures { Reads (spec.keys self.now.left (spec.nested self.now.left) setting cursor.old) result cursor.new }
     {
-        let mut found = HeldItems::new(self.alloc);
+        let mut found = Items::new(self.alloc);
         for _turn in 0..cursor.left() {
             found.push(self.key(cursor, setting)?)?;
-            if !either(
-                cursor.sees(setting, Mark::OpenSquare),
-                cursor.sees(setting, Mark::Dot),
-            ) {
+            if !begins_key(cursor, setting) {
                 return Ok(found);
             }
         }
-        Err(cursor.refusal(self.alloc, setting, Stop::Other))
+        Err(cursor.exhausted())
     }
 
     /// One update: its path and the new value, in which `@` has a meaning.
     #[tactic(auto, unfolding(crate::specs::Reading::update))]
-    fn update(
-        &self,
-        cursor: &mut Cursor<'_>,
-        setting: Setting,
-    ) -> Result<(Held<Path>, Held<Node>), SynFault>
+    fn update(&self, cursor: &mut Cursor<'_>, setting: Setting) -> Result<(Path, Node), Fault>
         requires { Nests self.now.left (F.pre self.now.read) (F.post self.now.read) }
         ensures { Reads (spec.update self.now.left (spec.nested self.now.left) setting cursor.old) result cursor.new }
     {
@@ -131,19 +130,17 @@ impl<F: Fn(Global, &mut Cursor<'_>, usize, usize, Setting, bool) -> Result<Flat,
         let keys = self.keys(cursor, setting)?;
         cursor.expect(self.alloc, setting, Stop::Other, Mark::Equal)?;
         let value = self.part(cursor, setting.with_at())?;
-        let path = Path {
-            keys: keys.into_items(),
-        };
-        Ok((Held::new(path), value))
+        Ok((Path { keys }, value))
     }
 
     /// One or more updates, with commas between.
+    #[tactic(auto, using(token_reader::proofs::Turns::turn), unfolding(token_reader::specs::Lists::gathered, token_reader::specs::Lists::gathered_from))]
     fn updates(
         &self,
         cursor: &mut Cursor<'_>,
         setting: Setting,
-        function: Held<Node>,
-    ) -> Result<Updates, SynFault>
+        function: Node,
+    ) -> Result<Updates, Fault>
         requires { Nests self.now.left (F.pre self.now.read) (F.post self.now.read) }
         ensures { Reads (spec.updates self.now.left (spec.nested self.now.left) setting function cursor.old) result cursor.new }
     {
@@ -155,7 +152,7 @@ impl<F: Fn(Global, &mut Cursor<'_>, usize, usize, Setting, bool) -> Result<Flat,
                 return Ok(updates);
             }
         }
-        Err(cursor.refusal(self.alloc, setting, Stop::Expression))
+        Err(cursor.exhausted())
     }
 
     /// `[f EXCEPT !path = e, ..]`, after the EXCEPT.
@@ -165,13 +162,13 @@ impl<F: Fn(Global, &mut Cursor<'_>, usize, usize, Setting, bool) -> Result<Flat,
         cursor: &mut Cursor<'_>,
         setting: Setting,
         place: Place,
-        function: Held<Node>,
-    ) -> Result<Held<Node>, SynFault>
+        function: Node,
+    ) -> Result<Node, Fault>
         requires { Nests self.now.left (F.pre self.now.read) (F.post self.now.read) }
         ensures { Reads (spec.except self.now.left (spec.nested self.now.left) setting place function cursor.old) result cursor.new }
     {
         let Updates { paths, parts } = self.updates(cursor, setting, function)?;
         cursor.expect(self.alloc, setting, Stop::Expression, Mark::CloseSquare)?;
-        Ok(whole(Form::Except(paths.into_items()), parts, place))
+        Ok(whole(Form::Except(paths), parts, place))
     }
 }

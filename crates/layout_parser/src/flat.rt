@@ -2,14 +2,14 @@
 
 use operator_chain::Piece;
 use std::collections::VecDeque;
-use tla_ast::SynFault;
+use tla_ast::Fault;
 
 /// A chain of operands and operators as far as it was read.
 #[derive(Debug, Drop)]
 pub struct Flat {
     pub pieces: VecDeque<Piece>,
     /// The fault at which it breaks off; none where it ends before a token that doesn't go on with it.
-    pub fault: Option<SynFault>,
+    pub fault: Option<Fault>,
 }
 
 /// The next step of a chain.
@@ -20,5 +20,5 @@ pub enum Step {
     /// The chain ends.
     Ended,
     /// A fault; behind a postfix operator that is not finished, or without one.
-    Broken(Option<Piece>, SynFault),
+    Broken(Option<Piece>, Fault),
 }

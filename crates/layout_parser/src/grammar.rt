@@ -2,22 +2,21 @@
 //! one function alone recurses.
 
 ghost use Rattle.std.specs.Prelude.{◌≡◌, ◌≢◌, Ok, Err, IfOk, true};
-ghost use Rattle.tla_ast.specs.declared.fault.SynFault.TheVariants as syn;
+ghost use Rattle.tla_ast.specs.declared.fault.Fault.TheVariants as syn;
 ghost use Rattle.operator_chain.specs.Chain.{IsChain, tree_of, fault_of};
 ghost use Rattle.operator_chain.specs.Listed.{AreListed};
-ghost use Rattle.layout_parser.specs.Input.{Tokens, Reads};
+ghost use Rattle.tla_ast.specs.Answers.{Reads};
+ghost use Rattle.token_reader.specs.Input.{Tokens};
 ghost use Rattle.layout_parser.specs.Reading as spec;
 ghost use Rattle.layout_parser.specs.Nests.{Nests, Flats, Steps, ended};
 
-use crate::cursor::Cursor;
 use crate::flat::{Flat, Step};
-use crate::held::Held;
-use crate::setting::{Setting, Stop};
 use core_expr::Memory;
 use operator_chain::{ChainFault, Piece, tree};
 use std::alloc::Global;
 use std::collections::VecDeque;
-use tla_ast::{Kind, Node, SynFault};
+use tla_ast::{Fault, Kind, Node};
+use token_reader::{Cursor, Setting, Stop};
 
 /// The rules, where so many nestings may begin.
 #[derive(Clone, Copy)]
@@ -29,28 +28,28 @@ pub struct Grammar<F> {
 }
 
 /// A fault that is not want of memory.
-pub fn told(fault: SynFault) -> Result<SynFault, Memory>
+pub fn told(fault: Fault) -> Result<Fault, Memory>
     ensures { IfOk result (λ f. (f ≡ fault) × (fault ≢ syn.Memory)) }
 {
     match fault {
-        SynFault::Memory => Err(Memory),
+        Fault::Memory => Err(Memory),
         other => Ok(other),
     }
 }
 
 /// The node of a chain, or the fault of its operators, or else that at which it breaks off.
 #[tactic(auto, unfolding(crate::specs::Reading::finished))]
-pub fn finished(alloc: Global, flat: Flat) -> Result<Held<Node>, SynFault>
+pub fn finished(alloc: Global, flat: Flat) -> Result<Node, Fault>
     requires chain { IsChain true flat.pieces.items }
     requires listed { AreListed flat.pieces.items }
     ensures { (rest : Tokens) → Reads (spec.finished (flat.pieces.items, ended flat.fault rest)) result rest }
 {
     let Flat { pieces, fault } = flat;
     let node = match tree(alloc, pieces) {
-        Ok(node) => Held::new(node),
-        Err(ChainFault::Memory) => return Err(SynFault::Memory),
+        Ok(node) => node,
+        Err(ChainFault::Memory) => return Err(Fault::Memory),
         Err(ChainFault::Precedence(place)) => {
-            return Err(SynFault::At {
+            return Err(Fault::At {
                 place,
                 kind: Kind::Precedence,
             });
@@ -95,7 +94,7 @@ impl<F: Fn(Global, &mut Cursor<'_>, usize, usize, Setting, bool) -> Result<Flat,
     }
 
     /// An expression in a further nesting.
-    pub fn part(&self, cursor: &mut Cursor<'_>, setting: Setting) -> Result<Held<Node>, SynFault>
+    pub fn part(&self, cursor: &mut Cursor<'_>, setting: Setting) -> Result<Node, Fault>
         requires { Nests self.now.left (F.pre self.now.read) (F.post self.now.read) }
         ensures { Reads (spec.part self.now.left (spec.nested self.now.left) setting cursor.old) result cursor.new }
     {
@@ -151,7 +150,7 @@ fn full(
     cursor: &Cursor<'_>,
     setting: Setting,
     waits: bool,
-) -> Result<Option<SynFault>, Memory>
+) -> Result<Option<Fault>, Memory>
     ensures { IfOk result (λ f. ended f cursor.now ≡ spec.full setting waits cursor.now) }
 {
     if !waits {
@@ -162,11 +161,7 @@ fn full(
 }
 
 /// The chain that breaks off at a fault, behind a postfix operator that is not finished or without one.
-fn broken(
-    mut pieces: VecDeque<Piece>,
-    piece: Option<Piece>,
-    fault: SynFault,
-) -> Result<Flat, Memory>
+fn broken(mut pieces: VecDeque<Piece>, piece: Option<Piece>, fault: Fault) -> Result<Flat, Memory>
     ensures { (rest : Tokens) → Flats (spec.behind pieces.items (spec.left_over piece, Err fault)) result rest }
 {
     if let Some(piece) = piece {

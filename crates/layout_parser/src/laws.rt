@@ -1,6 +1,6 @@
 //! Laws of readings, in the words of the language.
 
-ghost use Rattle.layout_parser.specs.Laws.{ReadInOrder, InsideTheRegion, EndIsExact, EndsBeforeTheLast, OneReading};
+ghost use Rattle.layout_parser.specs.Laws.{ReadInOrder, InsideTheRegion, EndIsExact, EndsBeforeTheLast, FaultsStandInTheList, EndIsThePlace};
 
 use operator_chain::one_right_tree;
 
@@ -27,14 +27,21 @@ pub fn end_is_exact()
     one_right_tree();
 }
 
-/// In a list that ends with an end token, a reading ends before that token at the latest.
+/// In a list that ends with an end token, a reading ends before that token at the latest; it uses a token at least.
 pub fn ends_before_the_last()
     ensures { EndsBeforeTheLast }
 {
     one_right_tree();
 }
 
-/// There is one reading at most.
-pub fn one_reading()
-    ensures { OneReading }
+/// A fault stands at a token of the list, and is Expected, Precedence, TooDeep or Unsupported.
+pub fn faults_stand_in_the_list()
+    ensures { FaultsStandInTheList }
 {}
+
+/// A reading at a place of a list of tokens is that of the tokens from there on, and leaves those from its end on.
+pub fn end_is_the_place()
+    ensures { EndIsThePlace }
+{
+    one_right_tree();
+}

@@ -3,24 +3,22 @@
 ghost use Rattle.std.specs.Prelude.{◌≡◌, ◌∷◌, true, IfOk, OnOk};
 ghost use Rattle.operator_chain.specs.Chain.{IsChain};
 ghost use Rattle.operator_chain.specs.Listed.{AreListed};
-ghost use Rattle.layout_parser.specs.Input as input;
-ghost use Rattle.layout_parser.specs.Input.{Tokens, Reads};
-ghost use Rattle.layout_parser.specs.Marks.{spelling};
+ghost use Rattle.token_reader.specs.Input as input;
+ghost use Rattle.tla_ast.specs.Answers.{Reads};
+ghost use Rattle.token_reader.specs.Input.{Tokens};
+ghost use Rattle.token_reader.specs.Marks.{spelling};
 ghost use Rattle.layout_parser.specs.Reading as spec;
 ghost use Rattle.layout_parser.specs.Nests.{Nests, Flats, ended};
 
 use crate::build::leaf;
-use crate::cursor::Cursor;
 use crate::flat::Flat;
 use crate::grammar::{Grammar, finished};
-use crate::held::Held;
-use crate::mark::Mark;
-use crate::setting::Setting;
 use core_expr::{Memory, Text};
-use operator_chain::{Operator, Piece, has_tree};
+use operator_chain::{Operator, Piece};
 use std::alloc::Global;
 use std::collections::VecDeque;
-use tla_ast::{Form, Node, Place, SynFault};
+use tla_ast::{Fault, Form, Node, Place};
+use token_reader::{Cursor, Mark, Setting};
 
 /// A name and the `\in` after it.
 #[derive(Drop)]
@@ -68,7 +66,7 @@ impl Bound {
 }
 
 /// The expression that begins with a name and `\in` and goes on with this chain.
-pub fn element(alloc: Global, bound: Bound, set: Flat) -> Result<Held<Node>, SynFault>
+pub fn element(alloc: Global, bound: Bound, set: Flat) -> Result<Node, Fault>
     requires chain { IsChain true set.pieces.items }
     requires listed { AreListed set.pieces.items }
     ensures { (rest : Tokens) → Reads (spec.finished (spec.after_member bound.name bound.place bound.sign (set.pieces.items, ended set.fault rest))) result rest }
@@ -77,28 +75,13 @@ pub fn element(alloc: Global, bound: Bound, set: Flat) -> Result<Held<Node>, Syn
     let Bound { name, place, sign } = bound;
     put_before(&mut pieces, member_at(alloc, sign)?)?;
     let name = leaf(alloc, Form::Name(name), place);
-    put_before(&mut pieces, Piece::Operand(name.into_inner()))?;
+    put_before(&mut pieces, Piece::Operand(name))?;
     finished(alloc, Flat { pieces, fault })
 }
 
-/// Whether the chain ended where this mark comes next, and has a right tree.
-pub fn is_whole(
-    alloc: Global,
-    cursor: &Cursor<'_>,
-    setting: Setting,
-    set: &Flat,
-    mark: Mark,
-) -> Result<bool, Memory>
-    requires chain { IsChain true set.now.pieces.items }
-    requires listed { AreListed set.now.pieces.items }
-    ensures { IfOk result (λ b. b ≡ spec.is_whole setting mark (set.now.pieces.items, ended set.now.fault cursor.now)) }
+/// Whether the chain was read without a fault inside it, and this mark comes next.
+pub fn ends_at(cursor: &Cursor<'_>, setting: Setting, set: &Flat, mark: Mark) -> bool
+    ensures { result ≡ spec.ends_at setting mark (set.now.pieces.items, ended set.now.fault cursor.now) }
 {
-    if set.fault.is_some() {
-        return Ok(false);
-    }
-    if cursor.sees(setting, mark) {
-        has_tree(alloc, &set.pieces)
-    } else {
-        Ok(false)
-    }
+    set.fault.is_none() && cursor.sees(setting, mark)
 }

@@ -1,25 +1,23 @@
 //! Operands and junction lists.
 
 ghost use Rattle.std.specs.Prelude.{◌≡◌, true, false};
-ghost use Rattle.layout_parser.specs.Input as input;
-ghost use Rattle.layout_parser.specs.Input.{Reads};
+ghost use Rattle.token_reader.specs.Input as input;
+ghost use Rattle.tla_ast.specs.Answers.{Reads};
 ghost use Rattle.layout_parser.specs.Reading as spec;
 ghost use Rattle.layout_parser.specs.Nests.{Nests, Flats, ended};
 
 use crate::build::{both, leaf, whole};
-use crate::cursor::Cursor;
 use crate::flat::Flat;
 use crate::grammar::Grammar;
-use crate::held::{Held, HeldItems};
-use crate::mark::{Mark, same_mark};
-use crate::setting::{Setting, Stop};
 use core_expr::{Memory, Text};
+use sqlite_items::Items;
 use std::alloc::Global;
-use tla_ast::{Form, Node, SynFault};
+use tla_ast::{Fault, Form, Node};
+use token_reader::{Cursor, Mark, Setting, Stop, same_mark};
 
 /// A word that is an operand by itself.
 #[tactic(auto, unfolding(crate::specs::Reading::value))]
-fn value(alloc: Global, cursor: &mut Cursor<'_>) -> Result<Held<Node>, SynFault>
+fn value(alloc: Global, cursor: &mut Cursor<'_>) -> Result<Node, Fault>
     ensures { Reads (spec.value cursor.old) result cursor.new }
 {
     let name = Text::of(alloc, cursor.spelling())?;
@@ -29,7 +27,7 @@ fn value(alloc: Global, cursor: &mut Cursor<'_>) -> Result<Held<Node>, SynFault>
 
 /// A number or a string.
 #[tactic(auto, unfolding(crate::specs::Reading::literal))]
-fn literal(alloc: Global, cursor: &mut Cursor<'_>) -> Result<Held<Node>, SynFault>
+fn literal(alloc: Global, cursor: &mut Cursor<'_>) -> Result<Node, Fault>
     ensures { Reads (spec.literal cursor.old) result cursor.new }
 {
     let form = cursor.literal(alloc)?;
@@ -37,31 +35,48 @@ fn literal(alloc: Global, cursor: &mut Cursor<'_>) -> Result<Held<Node>, SynFaul
     Ok(leaf(alloc, form, place))
 }
 
+/// Whether the same sign comes next in the column of the bullets.
+fn sees_bullet(cursor: &Cursor<'_>, setting: Setting, mark: Mark) -> bool
+    ensures { result ≡ spec.sees_bullet setting mark cursor.now }
+{
+    both(
+        cursor.place().column == setting.region,
+        same_mark(cursor.mark(), mark),
+    )
+}
+
 impl<F: Fn(Global, &mut Cursor<'_>, usize, usize, Setting, bool) -> Result<Flat, Memory>> Grammar<
     F,
 > {
+    /// A bullet and its item.
+    #[tactic(auto, unfolding(crate::specs::Reading::bulleted))]
+    fn bulleted(&self, cursor: &mut Cursor<'_>, setting: Setting) -> Result<Node, Fault>
+        requires { Nests self.now.left (F.pre self.now.read) (F.post self.now.read) }
+        ensures { Reads (spec.bulleted self.now.left (spec.nested self.now.left) setting cursor.old) result cursor.new }
+    {
+        cursor.advance();
+        self.part(cursor, setting)
+    }
+
     /// The items of a junction list from a bullet on.
+    #[tactic(auto, using(token_reader::proofs::Turns::turn), unfolding(token_reader::specs::Lists::gathered, token_reader::specs::Lists::gathered_from))]
     fn items(
         &self,
         cursor: &mut Cursor<'_>,
         setting: Setting,
         mark: Mark,
-    ) -> Result<HeldItems<Node>, SynFault>
+    ) -> Result<Items<Node>, Fault>
         requires { Nests self.now.left (F.pre self.now.read) (F.post self.now.read) }
         ensures { Reads (spec.items self.now.left (spec.nested self.now.left) setting mark cursor.old) result cursor.new }
     {
-        let mut found = HeldItems::new(self.alloc);
+        let mut found = Items::new(self.alloc);
         for _turn in 0..cursor.left() {
-            cursor.advance();
-            found.push(self.part(cursor, setting)?)?;
-            if !both(
-                cursor.place().column == setting.region,
-                same_mark(cursor.mark(), mark),
-            ) {
+            found.push(self.bulleted(cursor, setting)?)?;
+            if !sees_bullet(cursor, setting, mark) {
                 return Ok(found);
             }
         }
-        Err(cursor.refusal(self.alloc, setting, Stop::Expression))
+        Err(cursor.exhausted())
     }
 
     /// A junction list.
@@ -72,7 +87,7 @@ impl<F: Fn(Global, &mut Cursor<'_>, usize, usize, Setting, bool) -> Result<Flat,
         all: bool,
         mark: Mark,
         setting: Setting,
-    ) -> Result<Held<Node>, SynFault>
+    ) -> Result<Node, Fault>
         requires { Nests self.now.left (F.pre self.now.read) (F.post self.now.read) }
         ensures { Reads (spec.junction self.now.left (spec.nested self.now.left) all mark setting cursor.old) result cursor.new }
     {
@@ -83,7 +98,7 @@ impl<F: Fn(Global, &mut Cursor<'_>, usize, usize, Setting, bool) -> Result<Flat,
 
     /// `@`, which is an operand in a new value of an EXCEPT alone.
     #[tactic(auto, unfolding(crate::specs::Reading::at))]
-    fn at(&self, cursor: &mut Cursor<'_>, setting: Setting) -> Result<Held<Node>, SynFault>
+    fn at(&self, cursor: &mut Cursor<'_>, setting: Setting) -> Result<Node, Fault>
         requires { Nests self.now.left (F.pre self.now.read) (F.post self.now.read) }
         ensures { Reads (spec.at self.now.left (spec.nested self.now.left) setting cursor.old) result cursor.new }
     {
@@ -95,7 +110,7 @@ impl<F: Fn(Global, &mut Cursor<'_>, usize, usize, Setting, bool) -> Result<Flat,
     }
 
     /// An operand by the mark of its first token.
-    fn operand_by(&self, cursor: &mut Cursor<'_>, setting: Setting) -> Result<Held<Node>, SynFault>
+    fn operand_by(&self, cursor: &mut Cursor<'_>, setting: Setting) -> Result<Node, Fault>
         requires { Nests self.now.left (F.pre self.now.read) (F.post self.now.read) }
         ensures { Reads (spec.operand_by self.now.left (spec.nested self.now.left) setting (input.mark cursor.old) cursor.old) result cursor.new }
     {
@@ -125,7 +140,7 @@ impl<F: Fn(Global, &mut Cursor<'_>, usize, usize, Setting, bool) -> Result<Flat,
 
     /// An operand.
     #[tactic(auto, unfolding(crate::specs::Reading::operand))]
-    pub fn operand(&self, cursor: &mut Cursor<'_>, setting: Setting) -> Result<Held<Node>, SynFault>
+    pub fn operand(&self, cursor: &mut Cursor<'_>, setting: Setting) -> Result<Node, Fault>
         requires { Nests self.now.left (F.pre self.now.read) (F.post self.now.read) }
         ensures { Reads (spec.operand self.now.left (spec.nested self.now.left) setting cursor.old) result cursor.new }
     {

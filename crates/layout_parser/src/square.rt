@@ -1,31 +1,29 @@
 //! Square brackets.
 
 ghost use Rattle.std.specs.Prelude.{◌≡◌, true, OnOk};
-ghost use Rattle.layout_parser.specs.Input as input;
+ghost use Rattle.token_reader.specs.Input as input;
 ghost use Rattle.operator_chain.specs.Chain.{IsChain};
 ghost use Rattle.operator_chain.specs.Listed.{AreListed};
-ghost use Rattle.layout_parser.specs.Input.{Reads, and_then};
+ghost use Rattle.tla_ast.specs.Answers.{Reads};
+ghost use Rattle.token_reader.specs.Input.{and_then};
 ghost use Rattle.layout_parser.specs.Reading as spec;
 ghost use Rattle.layout_parser.specs.Nests.{Nests, Flats, ended};
 
 use crate::build::{binary, leaf, whole};
-use crate::cursor::Cursor;
 use crate::flat::Flat;
 use crate::grammar::{Grammar, finished};
-use crate::held::{Held, HeldItems};
-use crate::mark::Mark;
-use crate::member::{Bound, element, is_whole};
-use crate::setting::{Around, Setting, Stop};
+use crate::member::{Bound, element, ends_at};
 use core_expr::{Memory, Text};
 use sqlite_items::Items;
 use std::alloc::Global;
-use tla_ast::{Decl, Form, Node, Place, SynFault};
+use tla_ast::{Decl, Fault, Form, Node, Place};
+use token_reader::{Around, Cursor, Mark, Setting, Stop};
 
 /// Fields of a record with what they hold: the names, and per field a node of its name and the expression.
 #[derive(Drop)]
 pub struct Fields {
     pub names: Items<Text>,
-    pub parts: HeldItems<Node>,
+    pub parts: Items<Node>,
 }
 
 impl Fields {
@@ -34,12 +32,12 @@ impl Fields {
     {
         Fields {
             names: Items::new(alloc),
-            parts: HeldItems::new(alloc),
+            parts: Items::new(alloc),
         }
     }
 
-    fn push(&mut self, alloc: Global, field: Decl, value: Held<Node>) -> Result<(), Memory>
-        ensures { OnOk result (self.new ≡ spec.with_field self.old field value) }
+    fn push(&mut self, alloc: Global, field: Decl, value: Node) -> Result<(), Memory>
+        ensures { OnOk result (self.new ≡ spec.with_field self.old (field, value)) }
     {
         let name = Text::of(alloc, field.name.bytes())?;
         self.names.push(name)?;
@@ -53,27 +51,38 @@ impl Fields {
 impl<F: Fn(Global, &mut Cursor<'_>, usize, usize, Setting, bool) -> Result<Flat, Memory>> Grammar<
     F,
 > {
-    /// One or more `h |-> e` or `h : S`, with commas between.
-    fn fields(
+    /// `h |-> e` or `h : S`.
+    #[tactic(auto, unfolding(crate::specs::Reading::field_of))]
+    fn field_of(
         &self,
         cursor: &mut Cursor<'_>,
         setting: Setting,
         mark: Mark,
-    ) -> Result<Fields, SynFault>
+    ) -> Result<(Decl, Node), Fault>
+        requires { Nests self.now.left (F.pre self.now.read) (F.post self.now.read) }
+        ensures { Reads (spec.field_of self.now.left (spec.nested self.now.left) setting mark cursor.old) result cursor.new }
+    {
+        let field = cursor.declared(self.alloc, setting, Stop::Other)?;
+        cursor.expect(self.alloc, setting, Stop::Other, mark)?;
+        let value = self.part(cursor, setting)?;
+        Ok((field, value))
+    }
+
+    /// One or more fields, with commas between.
+    #[tactic(auto, using(token_reader::proofs::Turns::turn), unfolding(token_reader::specs::Lists::gathered, token_reader::specs::Lists::gathered_from))]
+    fn fields(&self, cursor: &mut Cursor<'_>, setting: Setting, mark: Mark) -> Result<Fields, Fault>
         requires { Nests self.now.left (F.pre self.now.read) (F.post self.now.read) }
         ensures { Reads (spec.fields self.now.left (spec.nested self.now.left) setting mark cursor.old) result cursor.new }
     {
         let mut fields = Fields::new(self.alloc);
         for _turn in 0..cursor.left() {
-            let field = cursor.declared(self.alloc, setting, Stop::Other)?;
-            cursor.expect(self.alloc, setting, Stop::Other, mark)?;
-            let value = self.part(cursor, setting)?;
+            let (field, value) = self.field_of(cursor, setting, mark)?;
             fields.push(self.alloc, field, value)?;
             if !cursor.eat(setting, Mark::Comma) {
                 return Ok(fields);
             }
         }
-        Err(cursor.refusal(self.alloc, setting, Stop::Expression))
+        Err(cursor.exhausted())
     }
 
     /// `[h |-> e, ..]`, after the `[`.
@@ -83,7 +92,7 @@ impl<F: Fn(Global, &mut Cursor<'_>, usize, usize, Setting, bool) -> Result<Flat,
         cursor: &mut Cursor<'_>,
         setting: Setting,
         place: Place,
-    ) -> Result<Held<Node>, SynFault>
+    ) -> Result<Node, Fault>
         requires { Nests self.now.left (F.pre self.now.read) (F.post self.now.read) }
         ensures { Reads (spec.record_of self.now.left (spec.nested self.now.left) setting place cursor.old) result cursor.new }
     {
@@ -99,7 +108,7 @@ impl<F: Fn(Global, &mut Cursor<'_>, usize, usize, Setting, bool) -> Result<Flat,
         cursor: &mut Cursor<'_>,
         setting: Setting,
         place: Place,
-    ) -> Result<Held<Node>, SynFault>
+    ) -> Result<Node, Fault>
         requires { Nests self.now.left (F.pre self.now.read) (F.post self.now.read) }
         ensures { Reads (spec.record_set self.now.left (spec.nested self.now.left) setting place cursor.old) result cursor.new }
     {
@@ -115,8 +124,8 @@ impl<F: Fn(Global, &mut Cursor<'_>, usize, usize, Setting, bool) -> Result<Flat,
         cursor: &mut Cursor<'_>,
         setting: Setting,
         place: Place,
-        domain: Held<Node>,
-    ) -> Result<Held<Node>, SynFault>
+        domain: Node,
+    ) -> Result<Node, Fault>
         requires { Nests self.now.left (F.pre self.now.read) (F.post self.now.read) }
         ensures { Reads (spec.function_set self.now.left (spec.nested self.now.left) setting place domain cursor.old) result cursor.new }
     {
@@ -133,8 +142,8 @@ impl<F: Fn(Global, &mut Cursor<'_>, usize, usize, Setting, bool) -> Result<Flat,
         outer: Around,
         setting: Setting,
         place: Place,
-        first: Held<Node>,
-    ) -> Result<Held<Node>, SynFault>
+        first: Node,
+    ) -> Result<Node, Fault>
         requires { Nests self.now.left (F.pre self.now.read) (F.post self.now.read) }
         ensures { Reads (spec.square_end self.now.left (spec.nested self.now.left) outer setting place first cursor.old) result cursor.new }
     {
@@ -151,7 +160,7 @@ impl<F: Fn(Global, &mut Cursor<'_>, usize, usize, Setting, bool) -> Result<Flat,
         Err(cursor.refusal(self.alloc, setting, Stop::Expression))
     }
 
-    /// `[x \in S |-> e]`, after the `|->`.
+    /// `[x \in S |-> e]`, after the set.
     #[tactic(auto, unfolding(crate::specs::Reading::function))]
     fn function(
         &self,
@@ -159,11 +168,12 @@ impl<F: Fn(Global, &mut Cursor<'_>, usize, usize, Setting, bool) -> Result<Flat,
         setting: Setting,
         name: Text,
         place: Place,
-        set: Held<Node>,
-    ) -> Result<Held<Node>, SynFault>
+        set: Node,
+    ) -> Result<Node, Fault>
         requires { Nests self.now.left (F.pre self.now.read) (F.post self.now.read) }
         ensures { Reads (spec.function self.now.left (spec.nested self.now.left) setting name place set cursor.old) result cursor.new }
     {
+        cursor.expect(self.alloc, setting, Stop::Expression, Mark::Maps)?;
         let value = self.part(cursor, setting)?;
         cursor.expect(self.alloc, setting, Stop::Expression, Mark::CloseSquare)?;
         Ok(binary(self.alloc, Form::Function(name), set, value, place)?)
@@ -178,7 +188,7 @@ impl<F: Fn(Global, &mut Cursor<'_>, usize, usize, Setting, bool) -> Result<Flat,
         place: Place,
         bound: Bound,
         set: Flat,
-    ) -> Result<Held<Node>, SynFault>
+    ) -> Result<Node, Fault>
         requires nests { Nests self.now.left (F.pre self.now.read) (F.post self.now.read) }
         requires set { IsChain true set.pieces.items × AreListed set.pieces.items }
         ensures { Reads (and_then (spec.finished (spec.after_member bound.name bound.place bound.sign (set.pieces.items, ended set.fault cursor.old))) (spec.square_end self.now.left (spec.nested self.now.left) outer setting place)) result cursor.new }
@@ -195,18 +205,17 @@ impl<F: Fn(Global, &mut Cursor<'_>, usize, usize, Setting, bool) -> Result<Flat,
         outer: Around,
         setting: Setting,
         place: Place,
-    ) -> Result<Held<Node>, SynFault>
+    ) -> Result<Node, Fault>
         requires { Nests self.now.left (F.pre self.now.read) (F.post self.now.read) }
         ensures { Reads (spec.member_square self.now.left (spec.nested self.now.left) outer setting place cursor.old) result cursor.new }
     {
         let bound = Bound::read(self.alloc, cursor)?;
         let most = cursor.left();
         let set = self.inner(cursor, most, setting, true)?;
-        if !is_whole(self.alloc, cursor, setting, &set, Mark::Maps)? {
+        if !ends_at(cursor, setting, &set, Mark::Maps) {
             return self.other_member_square(cursor, outer, setting, place, bound, set);
         }
         let set = finished(self.alloc, set)?;
-        cursor.advance();
         self.function(cursor, setting, bound.name, bound.place, set)
     }
 
@@ -218,7 +227,7 @@ impl<F: Fn(Global, &mut Cursor<'_>, usize, usize, Setting, bool) -> Result<Flat,
         outer: Around,
         setting: Setting,
         place: Place,
-    ) -> Result<Held<Node>, SynFault>
+    ) -> Result<Node, Fault>
         requires { Nests self.now.left (F.pre self.now.read) (F.post self.now.read) }
         ensures { Reads (spec.square_name self.now.left (spec.nested self.now.left) outer setting place cursor.old) result cursor.new }
     {
@@ -243,7 +252,7 @@ impl<F: Fn(Global, &mut Cursor<'_>, usize, usize, Setting, bool) -> Result<Flat,
         outer: Around,
         setting: Setting,
         place: Place,
-    ) -> Result<Held<Node>, SynFault>
+    ) -> Result<Node, Fault>
         requires { Nests self.now.left (F.pre self.now.read) (F.post self.now.read) }
         ensures { Reads (spec.square_from self.now.left (spec.nested self.now.left) outer setting place cursor.old) result cursor.new }
     {
@@ -256,7 +265,7 @@ impl<F: Fn(Global, &mut Cursor<'_>, usize, usize, Setting, bool) -> Result<Flat,
 
     /// Functions, records, their sets, EXCEPT and `[A]_v`.
     #[tactic(auto, unfolding(crate::specs::Reading::square))]
-    pub fn square(&self, cursor: &mut Cursor<'_>, setting: Setting) -> Result<Held<Node>, SynFault>
+    pub fn square(&self, cursor: &mut Cursor<'_>, setting: Setting) -> Result<Node, Fault>
         requires { Nests self.now.left (F.pre self.now.read) (F.post self.now.read) }
         ensures { Reads (spec.square self.now.left (spec.nested self.now.left) setting cursor.old) result cursor.new }
     {

@@ -1,22 +1,19 @@
 //! The pieces of a chain.
 
 ghost use Rattle.std.specs.Prelude.{◌≡◌, ◌≢◌, Ok, Err, IfOk, Some, None};
-ghost use Rattle.layout_parser.specs.Input as input;
-ghost use Rattle.layout_parser.specs.Input.{Reads};
+ghost use Rattle.token_reader.specs.Input as input;
+ghost use Rattle.tla_ast.specs.Answers.{Reads};
 ghost use Rattle.layout_parser.specs.Reading as spec;
 ghost use Rattle.layout_parser.specs.Nests.{Nests, Flats, Steps};
 
-use crate::cursor::Cursor;
 use crate::flat::{Flat, Step};
 use crate::grammar::{Grammar, told};
-use crate::held::Held;
-use crate::mark::Mark;
-use crate::setting::{Around, Setting, Stop};
 use core_expr::{Memory, Text};
 use operator_chain::{Ending, Operator, Piece, Suffix, plain};
 use std::alloc::Global;
 use std_names::Fix;
-use tla_ast::{Node, Place, SynFault};
+use tla_ast::{Fault, Node, Place};
+use token_reader::{Around, Cursor, Mark, Setting, Stop};
 
 /// The operator that the next token is, in the region.
 fn operator_at(
@@ -86,7 +83,7 @@ impl<F: Fn(Global, &mut Cursor<'_>, usize, usize, Setting, bool) -> Result<Flat,
 > {
     /// The argument of `f[e]`.
     #[tactic(auto, unfolding(crate::specs::Reading::index))]
-    fn index(&self, cursor: &mut Cursor<'_>, setting: Setting) -> Result<Held<Node>, SynFault>
+    fn index(&self, cursor: &mut Cursor<'_>, setting: Setting) -> Result<Node, Fault>
         requires { Nests self.now.left (F.pre self.now.read) (F.post self.now.read) }
         ensures { Reads (spec.index self.now.left (spec.nested self.now.left) setting cursor.old) result cursor.new }
     {
@@ -104,7 +101,7 @@ impl<F: Fn(Global, &mut Cursor<'_>, usize, usize, Setting, bool) -> Result<Flat,
     {
         let place = cursor.place();
         match self.index(cursor, setting) {
-            Ok(argument) => Ok(Step::More(index_at(argument.into_inner(), place), false)),
+            Ok(argument) => Ok(Step::More(index_at(argument, place), false)),
             Err(fault) => {
                 let fault = told(fault)?;
                 Ok(Step::Broken(Some(index_at(plain(self.alloc), place)), fault))
@@ -123,7 +120,7 @@ impl<F: Fn(Global, &mut Cursor<'_>, usize, usize, Setting, bool) -> Result<Flat,
             return Ok(Step::More(Piece::Prefix(operator), true));
         }
         match self.operand(cursor, setting) {
-            Ok(operand) => Ok(Step::More(Piece::Operand(operand.into_inner()), false)),
+            Ok(operand) => Ok(Step::More(Piece::Operand(operand), false)),
             Err(fault) => {
                 let fault = told(fault)?;
                 Ok(Step::Broken(None, fault))

@@ -1,46 +1,25 @@
 //! IF, CASE, LET.
 
 ghost use Rattle.std.specs.Prelude.{◌≡◌};
-ghost use Rattle.layout_parser.specs.Input as input;
-ghost use Rattle.layout_parser.specs.Input.{Reads};
+ghost use Rattle.token_reader.specs.Input as input;
+ghost use Rattle.tla_ast.specs.Answers.{Reads};
 ghost use Rattle.layout_parser.specs.Reading as spec;
 ghost use Rattle.layout_parser.specs.Nests.{Nests, Flats, ended};
 
-use crate::build::{ternary, whole};
-use crate::cursor::Cursor;
+use crate::build::{one, ternary, whole};
 use crate::flat::Flat;
 use crate::grammar::Grammar;
-use crate::held::{Held, HeldItems};
-use crate::mark::Mark;
-use crate::setting::{Around, Setting, Stop};
 use core_expr::Memory;
 use sqlite_items::{Boxed, Items};
 use std::alloc::Global;
-use tla_ast::{Decl, Def, Form, Node, SynFault};
+use tla_ast::{Decl, Def, Fault, Form, Node, Place};
+use token_reader::{Around, Cursor, Mark, Setting, Stop, names};
 
-/// The arms of a CASE: guard and value for each, and last the value of OTHER where there is one.
-#[derive(Drop)]
-pub struct Arms {
-    pub parts: HeldItems<Node>,
-    pub other: bool,
-}
-
-/// One or more parameters, with commas between.
-fn parameters(
-    alloc: Global,
-    cursor: &mut Cursor<'_>,
-    setting: Setting,
-) -> Result<Items<Decl>, SynFault>
-    ensures { Reads (spec.parameter_list setting cursor.old) result cursor.new }
+/// Reads the `[]` before a further arm, which is not that of OTHER; answers whether one comes.
+fn further_arm(cursor: &mut Cursor<'_>, setting: Setting) -> bool
+    ensures { spec.further_arm setting cursor.old ≡ Ok (result, cursor.new) }
 {
-    let mut found = Items::new(alloc);
-    for _turn in 0..cursor.left() {
-        found.push(cursor.declared(alloc, setting, Stop::Other)?)?;
-        if !cursor.eat(setting, Mark::Comma) {
-            return Ok(found);
-        }
-    }
-    Err(cursor.refusal(alloc, setting, Stop::Parameter))
+    !cursor.sees_second(setting, Mark::Other) && cursor.eat(setting, Mark::Always)
 }
 
 impl<F: Fn(Global, &mut Cursor<'_>, usize, usize, Setting, bool) -> Result<Flat, Memory>> Grammar<
@@ -48,11 +27,7 @@ impl<F: Fn(Global, &mut Cursor<'_>, usize, usize, Setting, bool) -> Result<Flat,
 > {
     /// IF.
     #[tactic(auto, unfolding(crate::specs::Reading::conditional))]
-    pub fn conditional(
-        &self,
-        cursor: &mut Cursor<'_>,
-        setting: Setting,
-    ) -> Result<Held<Node>, SynFault>
+    pub fn conditional(&self, cursor: &mut Cursor<'_>, setting: Setting) -> Result<Node, Fault>
         requires { Nests self.now.left (F.pre self.now.read) (F.post self.now.read) }
         ensures { Reads (spec.conditional self.now.left (spec.nested self.now.left) setting cursor.old) result cursor.new }
     {
@@ -67,11 +42,7 @@ impl<F: Fn(Global, &mut Cursor<'_>, usize, usize, Setting, bool) -> Result<Flat,
 
     /// One arm of a CASE: its guard and its value.
     #[tactic(auto, unfolding(crate::specs::Reading::arm))]
-    fn arm(
-        &self,
-        cursor: &mut Cursor<'_>,
-        setting: Setting,
-    ) -> Result<(Held<Node>, Held<Node>), SynFault>
+    fn arm(&self, cursor: &mut Cursor<'_>, setting: Setting) -> Result<(Node, Node), Fault>
         requires { Nests self.now.left (F.pre self.now.read) (F.post self.now.read) }
         ensures { Reads (spec.arm self.now.left (spec.nested self.now.left) setting cursor.old) result cursor.new }
     {
@@ -81,74 +52,81 @@ impl<F: Fn(Global, &mut Cursor<'_>, usize, usize, Setting, bool) -> Result<Flat,
         Ok((guard, value))
     }
 
-    /// The value of OTHER, after that word.
-    #[tactic(auto, unfolding(crate::specs::Reading::other_arm))]
-    fn other_arm(
-        &self,
-        cursor: &mut Cursor<'_>,
-        setting: Setting,
-        parts: HeldItems<Node>,
-    ) -> Result<Arms, SynFault>
-        requires { Nests self.now.left (F.pre self.now.read) (F.post self.now.read) }
-        ensures { Reads (spec.other_arm self.now.left (spec.nested self.now.left) setting parts cursor.old) result cursor.new }
-    {
-        cursor.expect(self.alloc, setting, Stop::Other, Mark::Arrow)?;
-        let value = self.part(cursor, setting)?;
-        let mut parts = parts;
-        parts.push(value)?;
-        Ok(Arms { parts, other: true })
-    }
-
-    /// One or more arms with `[]` between, of which the last may be that of OTHER.
-    fn arms(&self, cursor: &mut Cursor<'_>, setting: Setting) -> Result<Arms, SynFault>
+    /// One or more arms with `[]` between, up to that of OTHER.
+    #[tactic(auto, using(token_reader::proofs::Turns::turn), unfolding(token_reader::specs::Lists::gathered, token_reader::specs::Lists::gathered_from))]
+    fn arms(&self, cursor: &mut Cursor<'_>, setting: Setting) -> Result<Items<Node>, Fault>
         requires { Nests self.now.left (F.pre self.now.read) (F.post self.now.read) }
         ensures { Reads (spec.arms self.now.left (spec.nested self.now.left) setting cursor.old) result cursor.new }
     {
-        let mut parts = HeldItems::new(self.alloc);
+        let mut parts = Items::new(self.alloc);
         for _turn in 0..cursor.left() {
             let (guard, value) = self.arm(cursor, setting)?;
             parts.push(guard)?;
             parts.push(value)?;
-            if !cursor.eat(setting, Mark::Always) {
-                return Ok(Arms {
-                    parts,
-                    other: false,
-                });
-            }
-            if cursor.eat(setting, Mark::Other) {
-                return self.other_arm(cursor, setting, parts);
+            if !further_arm(cursor, setting) {
+                return Ok(parts);
             }
         }
-        Err(cursor.refusal(self.alloc, setting, Stop::Expression))
+        Err(cursor.exhausted())
+    }
+
+    /// The value of OTHER, after the `[]`.
+    #[tactic(auto, unfolding(crate::specs::Reading::other_arm))]
+    fn other_arm(&self, cursor: &mut Cursor<'_>, setting: Setting) -> Result<Node, Fault>
+        requires { Nests self.now.left (F.pre self.now.read) (F.post self.now.read) }
+        ensures { Reads (spec.other_arm self.now.left (spec.nested self.now.left) setting cursor.old) result cursor.new }
+    {
+        cursor.expect(self.alloc, setting, Stop::Other, Mark::Other)?;
+        cursor.expect(self.alloc, setting, Stop::Other, Mark::Arrow)?;
+        self.part(cursor, setting)
+    }
+
+    /// What follows the arms: that of OTHER, or nothing.
+    #[tactic(auto, unfolding(crate::specs::Reading::case_end))]
+    fn case_end(
+        &self,
+        cursor: &mut Cursor<'_>,
+        setting: Setting,
+        place: Place,
+        mut parts: Items<Node>,
+    ) -> Result<Node, Fault>
+        requires { Nests self.now.left (F.pre self.now.read) (F.post self.now.read) }
+        ensures { Reads (spec.case_end self.now.left (spec.nested self.now.left) setting place parts cursor.old) result cursor.new }
+    {
+        if !cursor.eat(setting, Mark::Always) {
+            return Ok(whole(Form::Case { other: false }, parts, place));
+        }
+        parts.push(self.other_arm(cursor, setting)?)?;
+        Ok(whole(Form::Case { other: true }, parts, place))
     }
 
     /// CASE.
     #[tactic(auto, unfolding(crate::specs::Reading::cases))]
-    pub fn cases(&self, cursor: &mut Cursor<'_>, setting: Setting) -> Result<Held<Node>, SynFault>
+    pub fn cases(&self, cursor: &mut Cursor<'_>, setting: Setting) -> Result<Node, Fault>
         requires { Nests self.now.left (F.pre self.now.read) (F.post self.now.read) }
         ensures { Reads (spec.cases self.now.left (spec.nested self.now.left) setting cursor.old) result cursor.new }
     {
         let place = cursor.take();
-        let Arms { parts, other } = self.arms(cursor, setting)?;
-        Ok(whole(Form::Case { other }, parts, place))
+        let parts = self.arms(cursor, setting)?;
+        self.case_end(cursor, setting, place, parts)
     }
 
     /// The parameters of a definition in parentheses.
     #[tactic(auto, unfolding(crate::specs::Reading::parameters))]
-    fn parameters(&self, cursor: &mut Cursor<'_>, setting: Setting) -> Result<Items<Decl>, SynFault>
+    fn parameters(&self, cursor: &mut Cursor<'_>, setting: Setting) -> Result<Items<Decl>, Fault>
         requires { Nests self.now.left (F.pre self.now.read) (F.post self.now.read) }
         ensures { Reads (spec.parameters self.now.left (spec.nested self.now.left) setting cursor.old) result cursor.new }
     {
         let inside = setting.within(Around::Other);
         cursor.opening(self.left)?;
-        let found = parameters(self.alloc, cursor, inside)?;
+        let found = names(self.alloc, cursor, inside, Stop::Other)?;
         cursor.expect(self.alloc, inside, Stop::Parameter, Mark::CloseParen)?;
         Ok(found)
     }
 
     /// What a definition has before its right side: the parameters, if any, and the `==`.
     #[tactic(auto, unfolding(crate::specs::Reading::head))]
-    fn head(&self, cursor: &mut Cursor<'_>, setting: Setting) -> Result<Items<Decl>, SynFault>
+    fn head(&self, cursor: &mut Cursor<'_>, setting: Setting) -> Result<Items<Decl>, Fault>
         requires { Nests self.now.left (F.pre self.now.read) (F.post self.now.read) }
         ensures { Reads (spec.head self.now.left (spec.nested self.now.left) setting cursor.old) result cursor.new }
     {
@@ -163,7 +141,7 @@ impl<F: Fn(Global, &mut Cursor<'_>, usize, usize, Setting, bool) -> Result<Flat,
 
     /// A definition.
     #[tactic(auto, unfolding(crate::specs::Reading::definition))]
-    fn definition(&self, cursor: &mut Cursor<'_>, setting: Setting) -> Result<Held<Def>, SynFault>
+    fn definition(&self, cursor: &mut Cursor<'_>, setting: Setting) -> Result<Def, Fault>
         requires { Nests self.now.left (F.pre self.now.read) (F.post self.now.read) }
         ensures { Reads (spec.definition self.now.left (spec.nested self.now.left) setting cursor.old) result cursor.new }
     {
@@ -174,45 +152,42 @@ impl<F: Fn(Global, &mut Cursor<'_>, usize, usize, Setting, bool) -> Result<Flat,
         } = cursor.declared(self.alloc, setting, Stop::Other)?;
         let params = self.head(cursor, setting)?;
         let body = self.part(cursor, setting)?;
-        let body = Boxed::new(self.alloc, body.into_inner())?;
-        Ok(Held::new(Def {
+        let body = Boxed::new(self.alloc, body)?;
+        Ok(Def {
             name,
             params,
             body,
             place,
-        }))
+        })
     }
 
-    /// One or more definitions, and the IN.
-    fn definitions(
-        &self,
-        cursor: &mut Cursor<'_>,
-        setting: Setting,
-    ) -> Result<HeldItems<Def>, SynFault>
+    /// One or more definitions.
+    #[tactic(auto, using(token_reader::proofs::Turns::turn), unfolding(token_reader::specs::Lists::gathered, token_reader::specs::Lists::gathered_from))]
+    fn definitions(&self, cursor: &mut Cursor<'_>, setting: Setting) -> Result<Items<Def>, Fault>
         requires { Nests self.now.left (F.pre self.now.read) (F.post self.now.read) }
         ensures { Reads (spec.definitions self.now.left (spec.nested self.now.left) setting cursor.old) result cursor.new }
     {
-        let mut found = HeldItems::new(self.alloc);
+        let mut found = Items::new(self.alloc);
         for _turn in 0..cursor.left() {
             found.push(self.definition(cursor, setting)?)?;
             if !cursor.sees(setting, Mark::Name) {
-                cursor.expect(self.alloc, setting, Stop::Expression, Mark::In)?;
                 return Ok(found);
             }
         }
-        Err(cursor.refusal(self.alloc, setting, Stop::Other))
+        Err(cursor.exhausted())
     }
 
     /// LET.
     #[tactic(auto, unfolding(crate::specs::Reading::local))]
-    pub fn local(&self, cursor: &mut Cursor<'_>, setting: Setting) -> Result<Held<Node>, SynFault>
+    pub fn local(&self, cursor: &mut Cursor<'_>, setting: Setting) -> Result<Node, Fault>
         requires { Nests self.now.left (F.pre self.now.read) (F.post self.now.read) }
         ensures { Reads (spec.local self.now.left (spec.nested self.now.left) setting cursor.old) result cursor.new }
     {
         let place = cursor.take();
         let definitions = self.definitions(cursor, setting)?;
+        cursor.expect(self.alloc, setting, Stop::Expression, Mark::In)?;
         let body = self.part(cursor, setting)?;
-        let parts = HeldItems::of(self.alloc, body)?;
-        Ok(whole(Form::Let(definitions.into_items()), parts, place))
+        let parts = one(self.alloc, body)?;
+        Ok(whole(Form::Let(definitions), parts, place))
     }
 }

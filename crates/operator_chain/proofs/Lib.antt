@@ -1,6 +1,6 @@
 mod Rows
 mod Laws
 mod FlatLaws
-mod FaultLaws
+pub mod FaultLaws
 mod MachineLaws
 mod StackLemmas

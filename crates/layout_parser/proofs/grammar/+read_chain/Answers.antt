@@ -1,8 +1,7 @@
 use Rattle.std.proofs.Common.{sym, subst, arith}
 use Rattle.layout_parser.specs.Reading.{nested}
 use Rattle.layout_parser.specs.Nests.{Flats}
-use Rattle.layout_parser.proofs.Turns.{deeper}
-use Rattle.layout_parser.proofs.ChainLaws.{nested-none}
+use Rattle.layout_parser.proofs.ChainLaws.{nested-none, deeper}
 use Rattle.layout_parser.proofs.grammar.+read_chain.Goals as goal
 
 pub returns-then-left-eq0 : goal.returns-then-left-eq0

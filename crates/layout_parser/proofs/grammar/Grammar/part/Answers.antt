@@ -1,5 +1,5 @@
 use Rattle.std.proofs.Common.{sym, subst, true}
-use Rattle.layout_parser.specs.Input.{Reads}
+use Rattle.tla_ast.specs.Answers.{Reads}
 use Rattle.layout_parser.specs.Reading.{part, nested, finished}
 use Rattle.layout_parser.proofs.ChainLaws.{flats-is}
 use Rattle.layout_parser.proofs.grammar.Grammar.part.Goals as goal
