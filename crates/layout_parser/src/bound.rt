@@ -69,7 +69,7 @@ impl<F: Fn(Global, &mut Cursor<'_>, usize, usize, Setting, bool) -> Result<Flat,
 
     /// One or more groups with sets, of which the first has these names.
     #[tactic(auto, unfolding(crate::specs::Reading::bounds))]
-    fn bounds(
+    pub fn bounds(
         &self,
         cursor: &mut Cursor<'_>,
         setting: Setting,

@@ -137,7 +137,7 @@ impl<F: Fn(Global, &mut Cursor<'_>, usize, usize, Setting, bool) -> Result<Flat,
 
     /// What a definition has before its right side: the parameters, if any, and the `==`.
     #[tactic(auto, unfolding(crate::specs::Reading::head))]
-    fn head(&self, cursor: &mut Cursor<'_>, setting: Setting) -> Result<Items<Decl>, Fault>
+    pub fn head(&self, cursor: &mut Cursor<'_>, setting: Setting) -> Result<Items<Decl>, Fault>
         requires { Nests self.now.left (F.pre self.now.read) (F.post self.now.read) }
         ensures { Reads (rule self.now.left spec.head setting cursor.old) result cursor.new }
     {
