@@ -1,13 +1,13 @@
 //! The reading of chains against brute force: of all trees of a chain those are kept that are right by the rules, which are
 //! written here once more.
 
-use super::*;
-use crate::tests::{chain_of, word_of};
+use crate::chains::{chain_of, word_of};
 use core_expr::Memory;
+use operator_chain::tree;
 use std::alloc::{AllocError, Global};
 use std::process::Abort;
 use std::test::Fail;
-use tla_ast::{Form, Node};
+use tla_ast::{Fault, Form, Node};
 
 #[derive(Clone, Copy, Debug, PartialEq, Eq)]
 enum Kind {
@@ -280,8 +280,15 @@ fn compare(alloc: Global, items: &[Item]) -> Result<Option<bool>, Memory> {
     let right = right_trees(alloc, items)?;
     Ok(match (answer, right.as_slice()) {
         (Ok(node), [one]) if is_node(&node, one) => Some(true),
-        (Err(ChainFault::Precedence(place)), [])
-            if first_wrong(alloc, items)? == Some(place.column) => { Some(false) }
+        (
+            Err(
+                Fault::At {
+                    place,
+                    kind: tla_ast::Kind::Precedence,
+                },
+            ),
+            [],
+        ) if first_wrong(alloc, items)? == Some(place.column) => { Some(false) }
         _ => None,
     })
 }

@@ -1,13 +1,15 @@
+//! Chains of operators and their trees, as a table.
+
 ghost use Rattle.std.specs.Prelude.{◌≡◌, true, false, [], ◌∷◌, ◌++◌, IfOk, OnOk};
 ghost use Rattle.operator_chain.specs.Chain.{IsChain, is_waiting};
 ghost use Rattle.operator_chain.specs.Listed.{AreListed, IsListed};
 
-use super::*;
 use core_expr::{Memory, Text};
+use operator_chain::{Ending, Operator, Piece, Suffix, tree};
 use std::alloc::{AllocError, Global};
 use std::collections::VecDeque;
 use std_names::Fix;
-use tla_ast::{Form, Node, Parts, Place};
+use tla_ast::{Fault, Form, Kind, Node, Parts, Place};
 
 fn named(alloc: Global, word: &[u8], place: Place) -> Result<Node, Memory> {
     Ok(Node {
@@ -140,9 +142,15 @@ fn is_read(alloc: Global, words: &[&[u8]], want: &Want) -> bool {
     };
     match (tree(alloc, chain), want) {
         (Ok(node), Want::Tree(text)) => is_written(alloc, &node, text),
-        (Err(ChainFault::Precedence(place)), Want::Refused(column)) => {
-            place.column == *column
-        }
+        (
+            Err(
+                Fault::At {
+                    place,
+                    kind: Kind::Precedence,
+                },
+            ),
+            Want::Refused(column),
+        ) => place.column == *column,
         _ => false,
     }
 }

@@ -42,9 +42,6 @@ no_more f n at done e = let none : n - at ≡ 0 = omega arith in e ∙ ap f none
 behind-behind : (xs ys : List Piece) (c : Chain) → behind xs (behind ys c) ≡ behind (xs ++ ys) c
 behind-behind xs ys c = ap (λ l. (l, c.1)) (sym (append_assoc xs ys c.0))
 
-pub behind-nil : (c : Chain) → c ≡ behind [] c
-behind-nil c = refl
-
 module _ (left : ℕ) (inner : ChainReader) where
   pub chain-more : (n : ℕ) (s : Setting) (waits opens : Bool) (ts rest : Tokens) (x : Piece) (xs : List Piece) (c : Chain)
       → step left inner s waits ts ≡ (More x opens, rest) → c ≡ behind xs (chain_from left inner (suc n) s waits ts)

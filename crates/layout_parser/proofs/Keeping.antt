@@ -546,4 +546,4 @@ nested-kept zero n s waits ts h = record { placed = tt; end = too-deep-in may s 
 nested-kept (suc left) n s waits ts h = chain-kept left (nested left) (nested-kept left) n s waits ts h
 
 pub stand-in : FaultsStandInTheList
-stand-in depth s ts e h is = subst (λ o. Keeps is_of_expressions ts o) is (finished-kept ts _ (nested-kept (rule.nestings_left depth) (length ts) s true ts h)).is
+stand-in left s ts e h is = subst (λ o. Keeps is_of_expressions ts o) is ((part-keeps left (nested left) (nested-kept left) s).at ts h).is

@@ -706,9 +706,9 @@ rule left of = of left (nested left)
 abbrev pub nestings_left : ℕ → ℕ
 nestings_left depth = suc (MOST_NESTINGS - depth)
 
--- an expression with so many nestings round it
+-- an expression where so many nestings may begin, itself among them
 abbrev pub expression : ℕ → Setting → Reader Node
-expression depth s = λ ts. finished (nested (nestings_left depth) (length ts) s true ts)
+expression left = rule left part
 
 -- what is round an expression that stands in no bracket
 abbrev pub outermost : ℕ → Setting
@@ -721,4 +721,4 @@ located ts (Err e) = Err e
 
 -- the reading of an expression that begins at a place of a list of tokens, in a region, with so many nestings round it
 unfoldable pub reading : List Token → ℕ → ℕ → ℕ → Result (Node × ℕ) Fault
-reading ts from region depth = located ts (expression depth (outermost region) (drop from ts))
+reading ts from region depth = located ts (expression (nestings_left depth) (outermost region) (drop from ts))

@@ -1,6 +1,6 @@
 //! The reader of expressions.
 //!
-//! To the layers above this crate promises that [`read_at`] and [`read_expr`] give exactly the reading of the tokens by the
+//! To the layers above this crate promises that [`expression`] and [`read_expr`] give exactly the reading of the tokens by the
 //! definition of `specs/Reading.antt`, or exactly its fault; and, as laws on that definition in any setting: what is read is
 //! spelled by the tokens that are used, in order, by the grammar of `specs/Spelling.antt`; no token outside the region is used; a
 //! reading ends before the first token that doesn't go on with it, and before the token that ends the list; a fault stands at a
@@ -28,4 +28,4 @@ pub use laws::{
     inside_the_region, read_in_order,
 };
 pub use phrases::{bounds, definition_head, expression};
-pub use reader::{read_at, read_expr};
+pub use reader::read_expr;
