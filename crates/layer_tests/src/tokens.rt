@@ -1,9 +1,9 @@
 //! The tokens of a text, as tables: their kinds and places, headers, and the first fault.
 
-use tla_lexer::lex;
 use sqlite_items::Items;
 use std::alloc::Global;
 use tla_ast::{LexFault, Tok, Token};
+use tla_lexer::lex;
 
 /// A token that a case wants.
 #[derive(Clone, Copy, Debug)]

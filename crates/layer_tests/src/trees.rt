@@ -4,9 +4,7 @@ use core_expr::Text;
 use sqlite_items::{Boxed, Items};
 use std::alloc::{AllocError, Global};
 use std::cmp::Ordering;
-use tla_ast::{
-    Form, Group, Kind, Node, Parts, Place, is_identifier, is_reserved,
-};
+use tla_ast::{Form, Group, Kind, Node, Parts, Place, is_identifier, is_reserved};
 
 /// A leaf.
 fn leaf(alloc: Global) -> Node {
