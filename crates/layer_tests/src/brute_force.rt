@@ -1,13 +1,13 @@
 //! The reading of chains against brute force: of all trees of a chain those are kept that are right by the rules, which are
 //! written here once more.
 
-use crate::chains::{chain_of, word_of};
+use crate::chains::{chain_of, refused, word_of};
 use core_expr::Memory;
 use operator_chain::tree;
 use std::alloc::{AllocError, Global};
 use std::process::Abort;
 use std::test::Fail;
-use tla_ast::{Fault, Form, Node};
+use tla_ast::{Form, Node};
 
 #[derive(Clone, Copy, Debug, PartialEq, Eq)]
 enum Kind {
@@ -278,19 +278,21 @@ fn compare(alloc: Global, items: &[Item]) -> Result<Option<bool>, Memory> {
     let words: Vec<&[u8]> = items.iter().map(|item| item.word).collect(alloc)?;
     let answer = tree(alloc, chain_of(alloc, &words)?);
     let right = right_trees(alloc, items)?;
-    Ok(match (answer, right.as_slice()) {
-        (Ok(node), [one]) if is_node(&node, one) => Some(true),
-        (
-            Err(
-                Fault::At {
-                    place,
-                    kind: tla_ast::Kind::Precedence,
-                },
-            ),
-            [],
-        ) if first_wrong(alloc, items)? == Some(place.column) => { Some(false) }
-        _ => None,
-    })
+    match answer {
+        Ok(node) => match right.as_slice() {
+            [one] if is_node(&node, one) => Ok(Some(true)),
+            _ => Ok(None),
+        },
+        Err(fault) => {
+            let found = refused(&fault);
+            let told = found.is_some() && found == first_wrong(alloc, items)?;
+            Ok(if told && right.is_empty() {
+                Some(false)
+            } else {
+                None
+            })
+        }
+    }
 }
 
 /// How many of the chains have a right tree.

@@ -136,22 +136,24 @@ fn is_written(alloc: Global, node: &Node, text: &[u8]) -> bool {
     }
 }
 
+/// The column of the operator that is refused.
+pub(crate) fn refused(fault: &Fault) -> Option<u64> {
+    match fault {
+        Fault::At {
+            place,
+            kind: Kind::Precedence,
+        } => Some(place.column),
+        _ => None,
+    }
+}
+
 fn is_read(alloc: Global, words: &[&[u8]], want: &Want) -> bool {
     let Ok(chain) = chain_of(alloc, words) else {
         return false;
     };
-    match (tree(alloc, chain), want) {
-        (Ok(node), Want::Tree(text)) => is_written(alloc, &node, text),
-        (
-            Err(
-                Fault::At {
-                    place,
-                    kind: Kind::Precedence,
-                },
-            ),
-            Want::Refused(column),
-        ) => place.column == *column,
-        _ => false,
+    match tree(alloc, chain) {
+        Ok(node) => matches!(want, Want::Tree(text) if is_written(alloc, &node, text)),
+        Err(fault) => matches!(want, Want::Refused(column) if refused(&fault) == Some(*column)),
     }
 }
 

@@ -5,7 +5,7 @@ use core_expr::Memory;
 use layout_parser::read_expr;
 use std::alloc::{AllocError, Global};
 use std::test::Fail;
-use tla_ast::{Kind, Place, Fault, Tokens};
+use tla_ast::{Fault, Kind, Place, Tokens};
 use tla_lexer::lex;
 
 /// A text as the second line and the further lines of a module.
