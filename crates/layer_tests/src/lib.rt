@@ -4,8 +4,6 @@
 #![tactic(auto)]
 
 #[cfg(test)]
-mod brute_force;
-#[cfg(test)]
 mod chains;
 #[cfg(test)]
 mod dump;

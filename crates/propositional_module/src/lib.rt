@@ -25,6 +25,3 @@ pub use law::{
 pub use reader::read;
 pub use sign::Sign;
 pub use theorem::{PropositionalModule, Theorem};
-
-#[cfg(test)]
-mod tests;
