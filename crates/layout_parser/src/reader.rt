@@ -13,8 +13,8 @@ use tla_ast::{Fault, MOST_NESTINGS, Node, Tokens};
 use token_reader::{Around, Cursor, Setting};
 
 /// Reads the expression that begins at a token of the list, from 0, of tokens whose column is over `region` alone, with `depth`
-/// nestings round it of the 200 that it may have, as [`expression`] does. Answers the node and the place in the list of the token after it: the list goes on
-/// there, since an expression never uses the token that ends the list.
+/// nestings round it of the 200 that a token may have, as [`expression`] does. Answers the node and the place in the list of the
+/// token after it: the list goes on there, since an expression never uses the token that ends the list.
 #[tactic(auto, unfolding(crate::specs::Reading::reading))]
 pub fn read_expr(
     alloc: Global,
