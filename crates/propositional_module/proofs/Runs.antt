@@ -4,7 +4,6 @@ use Rattle.std.specs.Result.{IsErrAnd}
 use Rattle.tla_ast.specs.declared.token.Token.{Token}
 use Rattle.propositional_module.specs.Kept.{behind_names, behind}
 use Rattle.tla_ast.specs.declared.fault.Fault.{Fault}
-use Rattle.tla_ast.specs.declared.fault.Fault.TheVariants as fault
 use Rattle.propositional_module.specs.declared.unit.Name.{Name}
 use Rattle.propositional_module.specs.declared.unit.Stated.{Stated}
 use Rattle.propositional_module.specs.Faults.{left_out}
@@ -14,8 +13,7 @@ use Rattle.propositional_module.specs.Units.{tok_at, place_at, is_sign, is_end, 
 -- a fault of one reading is that of a reading that begins with it
 pub fails : {S A R B : Type 0} (from : S → A) (value : R → B) (e : Fault) (found : Result A Fault) (all : Result B Fault)
     → ((f : Fault) → found ≡ Err f → all ≡ Err f) → AnswersAs from (Err e) found → AnswersAs value (Err e) all
-fails from value fault.Memory found all on g = tt
-fails from value (fault.At p k) found all on g = on (fault.At p k) g
+fails from value e found all on g = λ told. on e (g told)
 
 -- the same, where `?` hands the fault on
 pub fails-at : {S A R B : Type 0} (from : S → A) (value : R → B) (e : Fault) (found : Result A Fault) (all : Result B Fault) (r : Result R Fault)
@@ -25,8 +23,7 @@ fails-at from value e found all (Err x) i on g = subst (λ y. AnswersAs value (E
 
 -- a refusal that is found
 pub refused : {A R : Type 0} (value : R → A) (e known : Fault) (all : Result A Fault) → Told known e → all ≡ Err known → AnswersAs value (Err e) all
-refused value fault.Memory known all i h = tt
-refused value (fault.At p k) known all i h = h ∙ ap (λ f. Err f) i
+refused value e known all i h = λ told. h ∙ ap (λ f. Err f) (sym (i told))
 
 -- one turn more of a recursion on a count, beside a loop that counts up
 pub one_more : {X : Type 0} {x : X} (f : ℕ → X) (n at : ℕ) → at < n → x ≡ f (n - at) → x ≡ f (suc (n - (at + 1)))

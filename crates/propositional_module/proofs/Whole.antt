@@ -11,6 +11,7 @@ use Rattle.tla_lexer.specs.Place.{first}
 use Rattle.tla_lexer.specs.Signs.{Text}
 use Rattle.tla_lexer.specs.Tokens.{tokens}
 use Rattle.tla_ast.specs.declared.fault.Fault.{Fault}
+use Rattle.tla_ast.specs.declared.fault.Fault.TheVariants as fault
 use Rattle.propositional_module.specs.declared.theorem.PropositionalModule.{PropositionalModule}
 use Rattle.propositional_module.specs.declared.unit.Units.{Units}
 use Rattle.propositional_module.specs.Faults.{left_out}
@@ -49,8 +50,7 @@ lexer-fails bytes name f (Ok m) i g = absurd i
 lexer-fails bytes name f (Err e) i g = subst (λ x. Answers (Err x) (module_of bytes name)) (sym i) (told f g)
   where
     told : (f : Fault) → Answers (Err f) (tokens bytes) → Answers {A = PropositionalModule} (Err f) (module_of bytes name)
-    told lexer.Memory g = tt
-    told (lexer.At p k) g = lexer-fault bytes name (lexer.At p k) g
+    told f g = λ is. lexer-fault bytes name f (g is)
 
 pub other-name : (bytes name : Text) (ts : Tokens) → tokens bytes ≡ Ok ts → bytes_eq ts.name name ≡ false → module_of bytes name ≡ Err (left_out ts.header)
 unfolding module_of units_of
@@ -68,7 +68,7 @@ by-units bytes name ts u e g h = rw (e, g, h) refl
 
 -- ---- a front of the text
 
-too-long : (bytes : Text) → 1048576 < length bytes → tokens bytes ≡ Err (lexer.At first TooLong)
+too-long : (bytes : Text) → 1048576 < length bytes → tokens bytes ≡ Err (fault.At first TooLong)
 unfolding tokens
 too-long bytes h = rw (lt-ltb 1048576 (length bytes) h) refl
 

@@ -9,7 +9,7 @@ use crate::fault::refuse;
 use core_expr::Text;
 use layout_parser::read_expr;
 use sqlite_items::Items;
-use std::alloc::Global;
+use std::alloc::{AllocError, Global};
 use tla_ast::{Fault, Node, Place, Tok, Token, Tokens, is_identifier};
 
 /// A name that is declared, with its place.
@@ -206,6 +206,16 @@ fn read_theorem(alloc: Global, tokens: &Tokens, at: usize) -> Result<(Stated, us
     ))
 }
 
+/// Puts a theorem behind others.
+fn add(found: &mut Vec<Stated>, stated: Stated) -> Result<(), AllocError>
+    ensures { OnOk result (found.new.items ≡ found.old.items ++ stated ∷ []) }
+{
+    match found.push(stated) {
+        Ok(()) => Ok(()),
+        Err(_) => Err(AllocError),
+    }
+}
+
 /// Puts the theorems from an index to the end token behind others.
 fn read_theorems(
     alloc: Global,
@@ -222,7 +232,7 @@ fn read_theorems(
             return Ok(());
         }
         let (stated, next) = read_theorem(alloc, tokens, at)?;
-        found.push(stated)?;
+        add(found, stated)?;
         at = next;
     }
     Err(refuse(alloc, place_at(tokens, at)))
@@ -235,9 +245,11 @@ pub fn read_units(alloc: Global, tokens: &Tokens) -> Result<Units, Fault>
 {
     let (constants, at) = read_constants(alloc, tokens)?;
     let mut theorems = Vec::new(alloc);
-    read_theorems(alloc, tokens, at, &mut theorems)?;
-    Ok(Units {
-        constants,
-        theorems: Items::from_vec(theorems),
-    })
+    match read_theorems(alloc, tokens, at, &mut theorems) {
+        Ok(()) => Ok(Units {
+            constants,
+            theorems: Items::from_vec(theorems),
+        }),
+        Err(fault) => Err(fault),
+    }
 }

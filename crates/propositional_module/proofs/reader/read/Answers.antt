@@ -35,11 +35,11 @@ returns-in_err-units-clause-gives c =
     c.from_residual-in_err-units.ensures.1
     (λ f e. units-fault c.args.bytes.now c.args.name.now ts f c.in_ok-tokens.ensures.gives name e) c.in_err-units.ensures
 
-gives : (c : goal.After-drop-tokens-3) → Answers c.check-found.result (module_of c.args.bytes.now c.args.name.now)
+gives : (c : goal.After-drop-tokens-3) → Answers c.check.result (module_of c.args.bytes.now c.args.name.now)
 gives c =
     let ts = c.in_ok-tokens.tokens in
     let name = ap (λ w. bytes_eq w c.args.name.now) (sym c.bytes.ensures) ∙ is-same _ (sym c.ne.ensures ∙ c.if-ne.false) in
-    rw (by-units c.args.bytes.now c.args.name.now ts c.in_ok-units.units c.in_ok-tokens.ensures.gives name c.in_ok-units.ensures) c.check-found.ensures
+    rw (by-units c.args.bytes.now c.args.name.now ts c.in_ok-units.units c.in_ok-tokens.ensures.gives name c.in_ok-units.ensures) c.check.ensures
 
 pub returns : goal.returns
-returns c = record { gives = gives c; declared = known-gives c.args.bytes.now c.args.name.now c.check-found.result (gives c) }
+returns c = record { gives = gives c; declared = known-gives c.args.bytes.now c.args.name.now c.check.result (gives c) }
