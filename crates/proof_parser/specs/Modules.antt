@@ -40,7 +40,8 @@ use Rattle.token_reader.specs.declared.setting.Stop.TheVariants as stop
 use Rattle.token_reader.specs.Marks.{Text, mark_of, spelling}
 use Rattle.token_reader.specs.Input.{after, Tokens, Outcome, Reader, and_then, ◌>>=◌, ◌>>◌, ◌<$>◌, pure, refuse, refusal, take, eat, expect, declared, first, next, here, mark, sees, sees_second, exhausted}
 use Rattle.token_reader.specs.Lists.{gathered, put_last, separated, ask, names}
-use Rattle.layout_parser.specs.Reading.{outermost, part, nested, head, bounds, group, node}
+use Rattle.layout_parser.specs.Reading as reading
+use Rattle.layout_parser.specs.Reading.{outermost, rule, head, bounds, group, node}
 
 -- ---- what stands in no bracket
 
@@ -50,7 +51,7 @@ outside = outermost 0
 
 -- an expression, where so many nestings may begin, itself among them
 unfoldable pub expression : ℕ → Reader Node
-expression n = part n (nested n) outside
+expression n = reading.expression n outside
 
 -- one or more names, with commas between
 abbrev pub plain_names : Reader (List Decl)
@@ -165,7 +166,7 @@ module _ (n : ℕ) where
   unfoldable pub definition : Reader Def
   definition = do
     d ← declared outside stop.Other
-    ps ← head (n - 1) (nested (n - 1)) outside
+    ps ← rule (n - 1) head outside
     e ← expression n
     pure (roll-Def (record { name = d.name; params = ps; body = e; place = d.place }))
 
@@ -270,7 +271,7 @@ module _ (n : ℕ) where
   -- groups of names that all have sets, or one group without a set
   unfoldable pub groups_after : List Decl → Reader (List Group)
   groups_after ns = λ ts.
-      let with_sets = bounds n (nested n) outside ns ts in
+      let with_sets = rule n bounds outside ns ts in
       if sees outside m.Belongs ts then with_sets else Ok (group ns None ∷ [], ts)
 
   unfoldable pub taken : Reader (List Group)

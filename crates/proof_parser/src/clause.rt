@@ -3,7 +3,6 @@
 ghost use Rattle.std.specs.Prelude.{◌≡◌, ◌||◌, [], IfOk};
 ghost use Rattle.token_reader.specs.Input as input;
 ghost use Rattle.tla_ast.specs.Answers.{Reads};
-ghost use Rattle.layout_parser.specs.Reading as reading;
 ghost use Rattle.proof_parser.specs.Modules as spec;
 
 use crate::name::outside;
