@@ -33,7 +33,7 @@ fn answer(rt: &HostRuntime, alloc: Global, text: &[u8]) -> io::Result<()> {
 }
 
 fn main(rt: HostRuntime) -> io::Result<()> {
-    let list = fs::read_to_string(&rt, "/tmp/modfuzz/list.txt")?;
+    let list = fs::read_to_string(&rt, "/tmp/modtests/now.lst")?;
     for path in list.as_str().lines() {
         let text = fs::read(&rt, path)?;
         answer(&rt, rt.alloc(), text.as_slice())?;

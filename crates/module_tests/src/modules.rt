@@ -74,11 +74,12 @@ fn push_reading(alloc: Global, out: &mut Vec<u8>, tokens: &Tokens) -> Result<(),
     }
 }
 
-/// What the reader answers, as one line; nothing where the text has no tokens.
+/// What the reader answers, as one line.
 fn answer(alloc: Global, text: &[u8]) -> Result<Vec<u8>, Memory> {
     let mut out = Vec::new(alloc);
-    if let Ok(tokens) = lex(alloc, text) {
-        push_reading(alloc, &mut out, &tokens)?;
+    match lex(alloc, text) {
+        Ok(tokens) => push_reading(alloc, &mut out, &tokens)?,
+        Err(_) => out.extend_from_slice(b"refused: no tokens")?,
     }
     Ok(out)
 }
@@ -617,6 +618,41 @@ fn two_hundred_subproofs_and_one_more(rt: HostRuntime) -> Result<(), Fail> {
     for (text, count, place) in NESTED.iter() {
         let module = nested(alloc, text, *count)?;
         assert!(rt; is_deep(alloc, module.as_str(), place)?, "{count} {text}");
+    }
+    Ok(())
+}
+
+/// What begins a module, what is repeated in it, and what ends it.
+const LONG: [(&str, &str, &str); 12] = [
+    ("", "----\n", ""),
+    ("", "D==a\n", ""),
+    ("EXTENDS N", ",N", ""),
+    ("CONSTANT a", ",a", ""),
+    ("D(x", ",x", ") == x"),
+    ("THEOREM ASSUME a", ",a", " PROVE b"),
+    ("THEOREM a BY a", ",a", " DEF D"),
+    ("THEOREM a BY DEF D", ",D", ""),
+    ("THEOREM a\n", "<1> a\n", "<1> QED"),
+    ("THEOREM a <1> TAKE x", ",x", " <1> QED"),
+    ("THEOREM a <1> WITNESS a", ",a", " <1> QED"),
+    ("THEOREM a <1> DEFINE ", "D==a\n", "<1> QED"),
+];
+
+/// How often a text is repeated in a long list.
+const OFTEN: u64 = 100_000;
+
+#[test]
+fn long_lists_take_no_stack(rt: HostRuntime) -> Result<(), Fail> {
+    let alloc = rt.alloc();
+    for (before, again, after) in LONG.iter() {
+        let mut text = String::from_str(alloc, before)?;
+        for _ in 0..OFTEN {
+            text.push_str(again)?;
+        }
+        text.push_str(after)?;
+        let got = answer_in(alloc, &MODULE, text.as_str())?;
+        assert!(rt; got.is_empty() == (*again == "----\n"), "{again}");
+        assert!(rt; !got.starts_with(b"refused"), "{again}");
     }
     Ok(())
 }
