@@ -45,6 +45,7 @@ fn push_decl(out: &mut Vec<u8>, decl: &Decl) -> Result<(), AllocError> {
     push_at(out, &decl.place)
 }
 
+/// Appends names, with `,` between them.
 fn push_decls(out: &mut Vec<u8>, decls: &[Decl]) -> Result<(), AllocError> {
     for (i, decl) in decls.iter().enumerate() {
         push_between(out, i, b",")?;
@@ -83,6 +84,7 @@ fn push_node(out: &mut Vec<u8>, node: &Node) -> Result<(), AllocError> {
     out.extend_from_slice(b"]")
 }
 
+/// Appends expressions, with `,` between them.
 fn push_nodes(out: &mut Vec<u8>, nodes: &[Node]) -> Result<(), AllocError> {
     for (i, node) in nodes.iter().enumerate() {
         push_between(out, i, b", ")?;
@@ -104,6 +106,7 @@ fn push_groups(out: &mut Vec<u8>, groups: &[Group]) -> Result<(), AllocError> {
     Ok(())
 }
 
+/// Appends a definition.
 fn push_def(out: &mut Vec<u8>, def: &Def) -> Result<(), AllocError> {
     out.extend_from_slice(def.name.bytes())?;
     if !def.params.is_empty() {
@@ -116,6 +119,7 @@ fn push_def(out: &mut Vec<u8>, def: &Def) -> Result<(), AllocError> {
     push_node(out, def.body.get())
 }
 
+/// Appends definitions, with `,` between them.
 fn push_defs(out: &mut Vec<u8>, defs: &[Def]) -> Result<(), AllocError> {
     for (i, def) in defs.iter().enumerate() {
         push_between(out, i, b", ")?;
@@ -124,6 +128,7 @@ fn push_defs(out: &mut Vec<u8>, defs: &[Def]) -> Result<(), AllocError> {
     Ok(())
 }
 
+/// Appends an item; a constant stands behind `NEW` alone.
 fn push_item(out: &mut Vec<u8>, item: &Item) -> Result<(), AllocError> {
     let (sort, decl, domain) = match item {
         Item::Given(node) => return push_node(out, node),
@@ -142,6 +147,7 @@ fn push_item(out: &mut Vec<u8>, item: &Item) -> Result<(), AllocError> {
     Ok(())
 }
 
+/// Appends the items, if there are any, and the goal.
 fn push_statement(out: &mut Vec<u8>, statement: &Statement) -> Result<(), AllocError> {
     for (i, item) in statement.items.as_slice().iter().enumerate() {
         out.extend_from_slice(if i == 0 { b"ASSUME " } else { b", " })?;
@@ -167,6 +173,7 @@ fn push_token(
     push_at(out, place)
 }
 
+/// Appends a fact and its place.
 fn push_fact(out: &mut Vec<u8>, fact: &Fact) -> Result<(), AllocError> {
     match fact {
         Fact::StepName {
@@ -211,6 +218,7 @@ fn word_of(kind: &StepKind) -> &'static [u8] {
     }
 }
 
+/// Appends what a step does.
 fn push_kind(out: &mut Vec<u8>, kind: &StepKind) -> Result<(), AllocError> {
     out.extend_from_slice(word_of(kind))?;
     match kind {
@@ -233,6 +241,7 @@ fn push_kind(out: &mut Vec<u8>, kind: &StepKind) -> Result<(), AllocError> {
     }
 }
 
+/// Appends a step, with its proof.
 #[cycle(proofs)]
 fn push_step(out: &mut Vec<u8>, step: &Step) -> Result<(), AllocError> {
     push_token(out, step.level, step.label.bytes(), &step.place)?;
@@ -242,6 +251,7 @@ fn push_step(out: &mut Vec<u8>, step: &Step) -> Result<(), AllocError> {
     push_proof(out, &step.proof)
 }
 
+/// Appends a proof.
 #[cycle(proofs)]
 fn push_proof(out: &mut Vec<u8>, proof: &Proof) -> Result<(), AllocError> {
     match proof {
@@ -284,6 +294,7 @@ fn push_name(out: &mut Vec<u8>, name: &Option<Decl>) -> Result<(), AllocError> {
     Ok(())
 }
 
+/// Appends the place of a unit and what it does.
 fn push_unit(out: &mut Vec<u8>, unit: &Unit) -> Result<(), AllocError> {
     push_place(out, &unit.place)?;
     match &unit.kind {
