@@ -7,13 +7,16 @@ use Rattle.tla_ast.specs.declared.fault.Fault.TheVariants as fault
 use Rattle.tla_ast.specs.declared.fault.Kind.{Kind}
 use Rattle.tla_ast.specs.declared.fault.Kind.TheVariants.{Expected, TooDeep, StepLevel, NoQed}
 use Rattle.tla_ast.specs.declared.tree.Node.{Node}
+use Rattle.tla_ast.specs.declared.tree.Form.TheVariants as form
 use Rattle.tla_ast.specs.declared.tree.Decl.{Decl}
 use Rattle.tla_ast.specs.declared.tree.Group.{Group}
 use Rattle.tla_ast.specs.declared.unit.Sort.{Sort}
 use Rattle.tla_ast.specs.declared.unit.Sort.TheVariants as sort
 use Rattle.tla_ast.specs.declared.unit.Item.{Item}
 use Rattle.tla_ast.specs.declared.unit.Item.TheVariants as item
-use Rattle.tla_ast.specs.declared.unit.Step.{Step, out-Step}
+use Rattle.tla_ast.specs.declared.unit.Proof.{Proof}
+use Rattle.tla_ast.specs.declared.unit.Proof.TheVariants as proof
+use Rattle.tla_ast.specs.declared.unit.Step.{Step, roll-Step, out-Step}
 use Rattle.tla_ast.specs.declared.unit.StepKind.{StepKind}
 use Rattle.tla_ast.specs.declared.unit.Unit.{Unit as ModuleUnit}
 use Rattle.tla_ast.specs.declared.unit.UnitKind.TheVariants as unit
@@ -30,7 +33,7 @@ use Rattle.token_reader.specs.Input.{Tokens, Outcome, Reader, first, next, here,
 use Rattle.token_reader.specs.Lists.{put_last}
 use Rattle.token_reader.specs.Faults.{FaultIn, is_of_expressions}
 use Rattle.token_reader.proofs.Steps.{not-final}
-use Rattle.token_reader.proofs.Keeping.{Kept, IsKeeping, stays, here-stands, next-left, sees-left, sees-opens, after-left, behind, then-kept, then-keeps, pure-keeps, if-kept, if-keeps, left-kept, fault-here, refusal-in, refused-kept, refuse-keeps, eat-keeps, ask-keeps, expect-keeps, declared-keeps, opening-kept, gathered-keeps, names-keeps}
+use Rattle.token_reader.proofs.Keeping.{Kept, IsKeeping, stays, here-stands, next-left, sees-left, sees-opens, after-left, behind, then-kept, then-keeps, pure-keeps, if-kept, if-keeps, left-kept, fault-here, refusal-in, refused-kept, refuse-keeps, eat-keeps, ask-keeps, expect-keeps, name-keeps, declared-keeps, opening-kept, gathered-keeps, names-keeps}
 use Rattle.layout_parser.specs.Reading as reading
 use Rattle.layout_parser.specs.Reading.{nested}
 use Rattle.layout_parser.specs.Laws as expressions
@@ -130,6 +133,7 @@ extends-keeps = record {
 -- ---- steps that are refused
 
 misplaced-kept : {A : Type 0} (levels : List ℕ) (ts : Tokens) → Ends ts → Kept {A = A} is_of_modules ts (Err (rule.misplaced levels ts))
+unfolding rule.misplaced
 misplaced-kept levels ts h = fault-kept ts _ h (of_steps (rule.is_open (rule.level_of (first ts).tok) levels))
   where
     of_steps : (b : Bool) → is_of_modules (if b then NoQed else StepLevel) ≡ true
@@ -221,7 +225,7 @@ module _ (in-order : expressions.ReadInOrder) (last : expressions.EndsBeforeTheL
     -- ---- facts
 
     plain-fact-keeps : (hides : Bool) → Keeping (rule.plain_fact n hides)
-    plain-fact-keeps true = record { at = λ ts h. if-kept {b = sees outside m.Name ts} (λ e. left-kept (sees-left outside m.Name ts refl h e)) (λ _. refused-kept may outside stop.Other ts h) }
+    plain-fact-keeps true = record { at = λ ts h. then-kept ((name-keeps may outside stop.Other).at ts h) (λ x. pure-keeps {a = reading.node (form.Name x) [] (here ts)}) }
     plain-fact-keeps false = expression-keeps n
 
     fact-keeps : (hides : Bool) → Keeping (rule.fact_of n hides)
@@ -308,15 +312,18 @@ module _ (in-order : expressions.ReadInOrder) (last : expressions.EndsBeforeTheL
   module _ (n : ℕ) (inner : ProofReader) (keeps : ProofsKeep inner) where
     by-kept : (ts : Tokens) → Ends ts → Opens ts → Kept is_of_modules ts (rule.by n inner ts)
     unfolding rule.by
-    by-kept ts h o = then-kept (take-kept ts h o) (λ place. then-keeps (eat-keeps may outside m.Only refl) (λ only. then-keeps (cited-keeps n false) (λ c. pure-keeps)))
+    by-kept ts h o = then-kept (take-kept ts h o) (λ place. then-keeps (eat-keeps may outside m.Only refl) (λ only. then-keeps (cited-keeps n false) (λ c. pure-keeps {a = proof.By place only c.0 c.1})))
 
     step-proof-keeps : (k : StepKind) → ProofsKeep (rule.step_proof n inner k)
     unfolding rule.step_proof
     step-proof-keeps k under levels = if-keeps (rule.has_proof k) (optional-keeps inner keeps under levels) pure-keeps
 
+    abbrev step-of : Place → Tokens → StepKind → Proof → Step
+    step-of place ts k p = roll-Step (record { place = place; level = rule.level_of (first ts).tok; label = rule.label_of (first ts).tok; kind = k; proof = p })
+
     step-kept : (levels : List ℕ) (ts : Tokens) → Ends ts → Opens ts → Kept is_of_modules ts (rule.step n inner levels ts)
     unfolding rule.step
-    step-kept levels ts h o = then-kept (take-kept ts h o) (λ place. then-keeps (kind-keeps n) (λ k. then-keeps (step-proof-keeps k _ levels) (λ p. pure-keeps)))
+    step-kept levels ts h o = then-kept (take-kept ts h o) (λ place. then-keeps (kind-keeps n) (λ k. then-keeps (step-proof-keeps k (Some (rule.level_of (first ts).tok)) levels) (λ p. pure-keeps {a = step-of place ts k p})))
 
     steps-from-kept : (turns level : ℕ) (levels : List ℕ) (found : List Step) (ts : Tokens) → Ends ts → Opens ts → Kept is_of_modules ts (rule.steps_from n inner turns level levels found ts)
     unfolding rule.steps_from
@@ -329,7 +336,7 @@ module _ (in-order : expressions.ReadInOrder) (last : expressions.EndsBeforeTheL
 
     steps-kept : (under : Option ℕ) (levels : List ℕ) (ts : Tokens) → Ends ts → Opens ts → Kept is_of_modules ts (rule.steps n inner under levels ts)
     unfolding rule.steps
-    steps-kept under levels ts h o = if-kept {b = rule.is_deeper (rule.level_of (first ts).tok) under} (λ _. then-kept (steps-from-kept (length ts) _ _ [] ts h o) (λ ss. pure-keeps)) (λ _. fault-kept ts StepLevel h refl)
+    steps-kept under levels ts h o = if-kept {b = rule.is_deeper (rule.level_of (first ts).tok) under} (λ _. then-kept (steps-from-kept (length ts) _ _ [] ts h o) (λ ss. pure-keeps {a = proof.Steps ss})) (λ _. fault-kept ts StepLevel h refl)
 
     proof-by-kept : (under : Option ℕ) (levels : List ℕ) (k : Mark) (ts : Tokens) → Ends ts → (is_final k ≡ false → Opens ts) → Kept is_of_modules ts (rule.proof_by n inner under levels k ts)
     proof-by-kept under levels m.Obvious ts h o = left-kept (next-left ts h (o refl))
@@ -353,7 +360,7 @@ module _ (in-order : expressions.ReadInOrder) (last : expressions.EndsBeforeTheL
   theorem-kept : (ts : Tokens) → Ends ts → Opens ts → Kept is_of_modules ts (rule.theorem ts)
   unfolding rule.theorem
   theorem-kept ts h o = then-kept (take-kept ts h o) (λ _. then-keeps unit-name-keeps (λ x. then-keeps (statement-keeps rule.in_unit false)
-      (λ s. then-keeps (optional-keeps (rule.subproof rule.in_unit) (subproof-keeps rule.in_unit) None []) (λ p. pure-keeps))))
+      (λ s. then-keeps (optional-keeps (rule.subproof rule.in_unit) (subproof-keeps rule.in_unit) None []) (λ p. pure-keeps {a = unit.Theorem x s p}))))
 
   assumption-kept : (ts : Tokens) → Ends ts → Opens ts → Kept is_of_modules ts (rule.assumption ts)
   unfolding rule.assumption
@@ -380,7 +387,7 @@ module _ (in-order : expressions.ReadInOrder) (last : expressions.EndsBeforeTheL
   unfolding rule.unit_of
   unit-keeps after_steps = record {
     at = λ ts h. if-kept {b = after_steps && sees outside m.Step ts} (λ _. fault-kept ts StepLevel h refl)
-        (λ _. then-kept (unit-by-kept (mark ts) ts h (λ kept. not-final ts _ kept refl)) (λ u. pure-keeps));
+        (λ _. then-kept (unit-by-kept (mark ts) ts h (λ kept. not-final ts _ kept refl)) (λ u. pure-keeps {a = record { place = here ts; kind = u }}));
   }
 
   units-from-keeps : (turns : ℕ) (after_steps : Bool) (found : List ModuleUnit) → Keeping (rule.units_from turns after_steps found)
@@ -402,7 +409,7 @@ module _ (in-order : expressions.ReadInOrder) (last : expressions.EndsBeforeTheL
 
   pub stand-in : FaultsStandInTheList
   unfolding rule.module_of
-  stand-in x header ts e h is = subst (Stands ts) is (go _ ((then-keeps extends-keeps (λ es. then-keeps units-keeps (λ us. pure-keeps))).at ts h))
+  stand-in x header ts e h is = subst (Stands ts) is (go _ ((then-keeps extends-keeps (λ es. then-keeps units-keeps (λ us. pure-keeps {a = (es, us)}))).at ts h))
     where
       go : (o : Outcome (List (Text × Place) × List ModuleUnit)) → Kept is_of_modules ts o → Stands ts (rule.by_units x header o)
       go (Ok p) k = refl

@@ -26,8 +26,8 @@ use Rattle.tla_ast.specs.declared.unit.Module.{Module}
 use Rattle.token_reader.specs.declared.mark.Mark.{Mark}
 use Rattle.token_reader.specs.declared.mark.Mark.TheVariants as m
 use Rattle.token_reader.specs.declared.setting.Stop.TheVariants as stop
-use Rattle.token_reader.specs.Marks.{Text, spelling, is_final}
-use Rattle.token_reader.specs.Input.{Tokens, Outcome, first, next, here, mark, sees, sees_second, eat, expect, declared, after, ◌<$>◌}
+use Rattle.token_reader.specs.Marks.{Text, is_final}
+use Rattle.token_reader.specs.Input.{Tokens, Outcome, first, next, here, mark, sees, sees_second, eat, expect, name, declared, after, ◌<$>◌}
 use Rattle.token_reader.specs.Lists.{put_last, names}
 use Rattle.token_reader.proofs.Steps.{got, refused, same-end, by-test, by-reader, after-no, not-final}
 use Rattle.layout_parser.specs.Reading as reading
@@ -147,10 +147,9 @@ module _ (in-order : expressions.ReadInOrder) (n : ℕ) where
   -- ---- facts
 
   plain-fact : (hides : Bool) (ts mid : Tokens) (x : Node) → rule.plain_fact n hides ts ≡ Ok (x, mid) → Derives (a_fact hides (fact.Plain (here ts) x)) ts mid
-  unfolding mark
-  plain-fact true ts mid x e = by-test {b = sees outside m.Name ts} e
-      (λ yes f. derived (λ y. a_fact true (fact.Plain (here ts) y)) f (made.hidden (spelling (first ts).tok) (here ts)) (on-token (not-final ts m.Name refl (seen m.Name ts yes)) (seen m.Name ts yes, refl, refl) nothing))
-      (λ _ f. refused f)
+  unfolding mark name
+  plain-fact true ts mid x e = got {o = name outside stop.Other ts} e (λ text t1 e1 f1. let h = phrase.is-next _ e1 in let is = seen m.Name ts h.0 in
+      derived (λ y. a_fact true (fact.Plain (here ts) y)) f1 (made.hidden text (here ts)) (on-token (not-final ts m.Name refl is) (is, h.1, refl) (up-from h.2 nothing)))
   plain-fact false ts mid x e = record { parts = _; made = made.plain_fact (here ts) x; read = on-place (on-expression e nothing) }
 
   fact-read : (hides : Bool) (ts mid : Tokens) (x : Fact) → rule.fact_of n hides ts ≡ Ok (x, mid) → Derives (a_fact hides x) ts mid

@@ -21,8 +21,8 @@ use Rattle.proof_parser.proofs.Phrases.{Spelt}
 
 -- a test that fails at each mark of a table fails at what is found in it
 not-in : (test : Mark → Bool) (rows : List (Text × Mark)) (text : Text) (otherwise : Mark) → list_any (λ r. test r.1) rows ≡ false → test otherwise ≡ false → test (mark_in rows text otherwise) ≡ false
-not-in test [] text otherwise none last = last
-not-in test (r ∷ rs) text otherwise none last = go (test r.1) (pointwise nat_eq r.0 text) refl none (λ e. not-in test rs text otherwise e last)
+not-in test [] text otherwise missed last = last
+not-in test (r ∷ rs) text otherwise missed last = go (test r.1) (pointwise nat_eq r.0 text) refl missed (λ e. not-in test rs text otherwise e last)
   where
     go : (b found : Bool) → test r.1 ≡ b → (b || list_any (λ q. test q.1) rs) ≡ false → (list_any (λ q. test q.1) rs ≡ false → test (mark_in rs text otherwise) ≡ false)
         → test (if found then r.1 else mark_in rs text otherwise) ≡ false
