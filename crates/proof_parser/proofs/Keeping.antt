@@ -1,7 +1,6 @@
 -- Where the fault of each reader of modules stands, and what it leaves.
 use Rattle.std.proofs.Common.{◌≡◌, ℕ, zero, suc, ◌-◌, Bool, true, false, if◌then◌else◌, nat_eq, ◌&&◌, ◌||◌, List, [], ◌∷◌, ◌++◌, length, Option, Some, None, Result, Ok, Err, refl, subst}
 use Rattle.tla_ast.specs.declared.place.Place.{Place}
-use Rattle.tla_ast.specs.declared.token.Tok.{Tok}
 use Rattle.tla_ast.specs.declared.fault.Fault.{Fault}
 use Rattle.tla_ast.specs.declared.fault.Fault.TheVariants as fault
 use Rattle.tla_ast.specs.declared.fault.Kind.{Kind}
@@ -9,7 +8,6 @@ use Rattle.tla_ast.specs.declared.fault.Kind.TheVariants.{Expected, TooDeep, Ste
 use Rattle.tla_ast.specs.declared.tree.Node.{Node}
 use Rattle.tla_ast.specs.declared.tree.Form.TheVariants as form
 use Rattle.tla_ast.specs.declared.tree.Decl.{Decl}
-use Rattle.tla_ast.specs.declared.tree.Group.{Group}
 use Rattle.tla_ast.specs.declared.unit.Sort.{Sort}
 use Rattle.tla_ast.specs.declared.unit.Sort.TheVariants as sort
 use Rattle.tla_ast.specs.declared.unit.Item.{Item}
@@ -26,14 +24,13 @@ use Rattle.token_reader.specs.declared.mark.Mark.{Mark}
 use Rattle.token_reader.specs.declared.mark.Mark.TheVariants as m
 use Rattle.token_reader.specs.declared.setting.Around.TheVariants as around
 use Rattle.token_reader.specs.declared.setting.Setting.{Setting}
-use Rattle.token_reader.specs.declared.setting.Stop.{Stop}
 use Rattle.token_reader.specs.declared.setting.Stop.TheVariants as stop
 use Rattle.token_reader.specs.Marks.{Text, is_final}
 use Rattle.token_reader.specs.Input.{Tokens, Outcome, Reader, first, next, here, mark, sees, sees_second, within, take, refusal, after}
 use Rattle.token_reader.specs.Lists.{put_last}
 use Rattle.token_reader.specs.Faults.{FaultIn, is_of_expressions}
 use Rattle.token_reader.proofs.Steps.{not-final}
-use Rattle.token_reader.proofs.Keeping.{Kept, IsKeeping, stays, here-stands, next-left, sees-left, sees-opens, after-left, behind, then-kept, then-keeps, pure-keeps, if-kept, if-keeps, left-kept, fault-here, refusal-in, refused-kept, refuse-keeps, eat-keeps, ask-keeps, expect-keeps, name-keeps, declared-keeps, opening-kept, gathered-keeps, names-keeps}
+use Rattle.token_reader.proofs.Keeping.{Kept, IsKeeping, stays, here-stands, next-left, sees-left, sees-opens, after-left, behind, then-kept, then-keeps, pure-keeps, if-kept, if-keeps, left-kept, refusal-in, refused-kept, eat-keeps, ask-keeps, expect-keeps, name-keeps, declared-keeps, opening-kept, gathered-keeps, names-keeps}
 use Rattle.layout_parser.specs.Reading as reading
 use Rattle.layout_parser.specs.Reading.{nested}
 use Rattle.layout_parser.specs.Laws as expressions

@@ -4,10 +4,9 @@ use Rattle.std.proofs.lemmas.Bool.{true≢false, eqb-true}
 use Rattle.tla_ast.specs.declared.place.Place.{Place}
 use Rattle.tla_ast.specs.declared.token.Tok.TheVariants as tok
 use Rattle.tla_ast.specs.declared.fault.Fault.{Fault}
-use Rattle.tla_ast.specs.declared.tree.Node.{Node, out-Node}
+use Rattle.tla_ast.specs.declared.tree.Node.{Node}
 use Rattle.tla_ast.specs.declared.tree.Decl.{Decl}
 use Rattle.tla_ast.specs.declared.tree.Group.{Group}
-use Rattle.tla_ast.specs.declared.tree.Def.{Def}
 use Rattle.tla_ast.specs.declared.unit.Sort.TheVariants as sort
 use Rattle.tla_ast.specs.declared.unit.Item.{Item}
 use Rattle.tla_ast.specs.declared.unit.Item.TheVariants as item
@@ -16,7 +15,7 @@ use Rattle.tla_ast.specs.declared.unit.Fact.{Fact}
 use Rattle.tla_ast.specs.declared.unit.Fact.TheVariants as fact
 use Rattle.tla_ast.specs.declared.unit.Proof.{Proof}
 use Rattle.tla_ast.specs.declared.unit.Proof.TheVariants as proof
-use Rattle.tla_ast.specs.declared.unit.Step.{Step, roll-Step, out-Step}
+use Rattle.tla_ast.specs.declared.unit.Step.{Step, out-Step}
 use Rattle.tla_ast.specs.declared.unit.StepKind.{StepKind}
 use Rattle.tla_ast.specs.declared.unit.StepKind.TheVariants as kind
 use Rattle.tla_ast.specs.declared.unit.Unit.{Unit as ModuleUnit}
@@ -39,8 +38,8 @@ use Rattle.proof_parser.specs.Modules.{outside, ProofReader, level_of, label_of}
 use Rattle.proof_parser.specs.Laws.{IsInOrder, ReadInOrder}
 use Rattle.proof_parser.specs.Spelling as made
 use Rattle.proof_parser.specs.Spelling.{Symbol, Symbols, Made, same, expression, names_after, name_of, listed, optional, an_item, a_statement, a_fact, cited, groups, a_kind, a_proof, body, steps, a_step, a_unit, units, Spelled}
-use Rattle.proof_parser.proofs.Phrases.{Spelt, names-read, constants-read, on-part, bounds, definition, definitions}
-use Rattle.proof_parser.proofs.Parts.{Read, Derives, Listed, seen, end-token, nothing, up-to, up-from, on-token, on-sign, on-sign-at, on-step, on-eaten, on-optional, on-place, on-phrase, on-made, derived, derived-as, list-read}
+use Rattle.proof_parser.proofs.Phrases.{names-read, constants-read, on-part, bounds, definition, definitions}
+use Rattle.proof_parser.proofs.Parts.{Read, Derives, seen, end-token, nothing, up-to, up-from, on-token, on-sign, on-sign-at, on-step, on-eaten, on-optional, on-place, on-phrase, on-made, derived, derived-as, list-read}
 
 -- ---- small readers
 

@@ -1,5 +1,5 @@
 -- What has been read in the grammar of expressions.
-use Rattle.std.proofs.Common.{◌≡◌, ℕ, zero, suc, ◌+◌, ◌-◌, Bool, true, false, if◌then◌else◌, List, [], ◌∷◌, ◌++◌, map, Option, Some, None, Ok, Err, refl, sym, ap, subst, ◌∙◌, arith}
+use Rattle.std.proofs.Common.{◌≡◌, ℕ, suc, ◌+◌, ◌-◌, false, List, [], ◌∷◌, ◌++◌, map, Some, Ok, refl, sym, ap, subst, ◌∙◌, arith}
 use Rattle.tla_ast.specs.declared.tree.Node.{Node}
 use Rattle.tla_ast.specs.declared.tree.Decl.{Decl}
 use Rattle.tla_ast.specs.declared.tree.Group.{Group}
@@ -13,7 +13,7 @@ use Rattle.token_reader.proofs.Steps.{got, same-end, by-test, by-reader, begun, 
 use Rattle.layout_parser.specs.Reading as reading
 use Rattle.layout_parser.specs.Laws as expressions
 use Rattle.layout_parser.specs.Spelling as spell
-use Rattle.layout_parser.proofs.Steps.{Read, Stands, ItemRead, ListRead, nothing, on-sign, on-declared, on-eat, on-no, both, up-to, up-from, behind-sign, is-next, stands, eaten, list-read, mark-separates, ask-separates, puts, puts-last, puts-same}
+use Rattle.layout_parser.proofs.Steps.{Read, Stands, ItemRead, ListRead, nothing, on-sign, on-declared, on-eat, both, up-to, behind-sign, is-next, stands, eaten, list-read, mark-separates, ask-separates, puts, puts-last, puts-same}
 use Rattle.proof_parser.specs.Modules as rule
 use Rattle.proof_parser.specs.Modules.{outside}
 use Rattle.proof_parser.specs.Spelling.{same, blanks, arguments, constant}
