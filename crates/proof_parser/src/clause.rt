@@ -61,7 +61,12 @@ impl Clauses {
             arity: _,
             place,
         } = cursor.declared(self.alloc, outside(), Stop::Other)?;
-        let params = definition_head(self.alloc, cursor, self.nestings.saturating_sub(1), outside())?;
+        let params = definition_head(
+            self.alloc,
+            cursor,
+            self.nestings.saturating_sub(1),
+            outside(),
+        )?;
         let body = self.expression(cursor)?;
         let body = Boxed::new(self.alloc, body)?;
         Ok(Def {
@@ -106,11 +111,14 @@ impl Clauses {
         let sort = Sort::Constant;
         let decl = cursor.declared(self.alloc, outside(), Stop::Other)?;
         if !cursor.eat(outside(), Mark::Belongs) {
-            return self.name_end(cursor, Item::New {
-                sort,
-                decl,
-                domain: None,
-            });
+            return self.name_end(
+                cursor,
+                Item::New {
+                    sort,
+                    decl,
+                    domain: None,
+                },
+            );
         }
         let set = self.expression(cursor)?;
         let domain = Some(Boxed::new(self.alloc, set)?);
@@ -123,11 +131,14 @@ impl Clauses {
         ensures { Reads (spec.new_variable self.nestings sort cursor.old) result cursor.new }
     {
         let decl = cursor.declared(self.alloc, outside(), Stop::Other)?;
-        self.name_end(cursor, Item::New {
-            sort,
-            decl,
-            domain: None,
-        })
+        self.name_end(
+            cursor,
+            Item::New {
+                sort,
+                decl,
+                domain: None,
+            },
+        )
     }
 
     /// What is declared, after NEW.
