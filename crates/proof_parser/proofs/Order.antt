@@ -43,6 +43,12 @@ use Rattle.proof_parser.proofs.Parts.{Read, Derives, seen, end-token, nothing, u
 
 -- ---- small readers
 
+-- one of two words
+on-either : (b : Bool) (k l : Mark) {ts rest : Tokens} {ys : Symbols} → is_final k ≡ false → is_final l ≡ false → mark ts ≡ (if b then k else l) → Read (next ts) rest ys
+    → Read ts rest (made.sign (if b then k else l) ∷ ys)
+on-either true k l kept other is r = on-sign k kept is r
+on-either false k l kept other is r = on-sign l other is r
+
 -- the name of a unit
 on-unit-name : (ts mid rest : Tokens) (x : Option Decl) {ys : Symbols} → rule.unit_name ts ≡ Ok (x, mid) → Read mid rest ys → Read ts rest (name_of x ys)
 unfolding rule.unit_name
@@ -289,28 +295,16 @@ module _ (in-order : expressions.ReadInOrder) where
 
   constants-unit : (several : Bool) (ts mid : Tokens) (u : UnitKind) → mark ts ≡ (if several then m.Constants else m.Constant) → rule.unit_by m.Constant ts ≡ Ok (u, mid) → Derives (a_unit u) ts mid
   constants-unit several ts mid u is e = got {o = rule.constants (next ts)} e (λ ds t1 e1 f1. let h = constants-read (next ts) ds t1 e1 in
-      derived-as a_unit f1 (ap (λ l. unit.Constants l) h.are) (made.constants_unit several h.head h.tail) (on-sign _ (kept several) is (on-phrase h.read nothing)))
-    where
-      kept : (b : Bool) → is_final (if b then m.Constants else m.Constant) ≡ false
-      kept true = refl
-      kept false = refl
+      derived-as a_unit f1 (ap (λ l. unit.Constants l) h.are) (made.constants_unit several h.head h.tail) (on-either several m.Constants m.Constant refl refl is (on-phrase h.read nothing)))
 
   variables-unit : (several : Bool) (ts mid : Tokens) (u : UnitKind) → mark ts ≡ (if several then m.Variables else m.Variable) → rule.unit_by m.Variable ts ≡ Ok (u, mid) → Derives (a_unit u) ts mid
   variables-unit several ts mid u is e = got {o = rule.plain_names (next ts)} e (λ ds t1 e1 f1. let h = names-read stop.Other (next ts) ds t1 e1 in
-      derived-as a_unit f1 (ap (λ l. unit.Variables l) h.are) (made.variables_unit several h.head h.tail) (on-sign _ (kept several) is (on-phrase h.read nothing)))
-    where
-      kept : (b : Bool) → is_final (if b then m.Variables else m.Variable) ≡ false
-      kept true = refl
-      kept false = refl
+      derived-as a_unit f1 (ap (λ l. unit.Variables l) h.are) (made.variables_unit several h.head h.tail) (on-either several m.Variables m.Variable refl refl is (on-phrase h.read nothing)))
 
   assumption-unit : (is_axiom : Bool) (ts mid : Tokens) (u : UnitKind) → mark ts ≡ (if is_axiom then m.Assumption else m.Assume) → rule.assumption ts ≡ Ok (u, mid) → Derives (a_unit u) ts mid
   unfolding rule.assumption
   assumption-unit is_axiom ts mid u is e = got {o = rule.unit_name (next ts)} e (λ x t1 e1 f1. got {o = rule.expression room t1} f1 (λ y t2 e2 f2.
-      derived a_unit f2 (made.assumption is_axiom x y) (on-sign _ (kept is_axiom) is (on-unit-name (next ts) t1 t2 x e1 (on-expression in-order room e2 nothing)))))
-    where
-      kept : (b : Bool) → is_final (if b then m.Assumption else m.Assume) ≡ false
-      kept true = refl
-      kept false = refl
+      derived a_unit f2 (made.assumption is_axiom x y) (on-either is_axiom m.Assumption m.Assume refl refl is (on-unit-name (next ts) t1 t2 x e1 (on-expression in-order room e2 nothing)))))
 
   unit-by : (k : Mark) (ts mid : Tokens) (u : UnitKind) → mark ts ≡ k → rule.unit_by k ts ≡ Ok (u, mid) → Derives (a_unit u) ts mid
   unfolding rule.theorem
