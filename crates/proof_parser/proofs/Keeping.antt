@@ -344,8 +344,10 @@ module _ (in-order : expressions.ReadInOrder) (last : expressions.EndsBeforeTheL
 
     proof-keeps : ProofsKeep (rule.proof_of n inner)
     unfolding rule.proof_of
-    proof-keeps under levels = record { at = λ ts h. let l = after-left outside m.Proof ts refl h in
-        behind l (proof-by-kept under levels (mark (after outside m.Proof ts)) (after outside m.Proof ts) l.ends (λ kept. not-final _ _ kept refl)) }
+    proof-keeps under levels = record {
+      at = λ ts h. let l = after-left outside m.Proof ts refl h in
+          behind l (proof-by-kept under levels (mark (after outside m.Proof ts)) (after outside m.Proof ts) l.ends (λ kept. not-final _ _ kept refl));
+    }
 
   subproof-keeps : (n : ℕ) → ProofsKeep (rule.subproof n)
   unfolding rule.subproof

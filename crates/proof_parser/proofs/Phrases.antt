@@ -70,8 +70,12 @@ constant-read ts mid d e = got {o = declared outside stop.Other ts} e (λ x t1 e
     record { item = d; is = refl; read = subst (λ c. Spelt ts mid (constant c)) z.0 (subst (λ c. Spelt ts mid (spell.declared c ∷ arguments n)) plain (on-declared outside stop.Other e1 (up-to z.1 read))) }))
     (λ no f2. let z = same-end x d (after outside m.OpenParen t1) mid f2 in
     let none : 0 ≡ x.arity = ap (λ c. c.arity) made in
-    record { item = d; is = refl; read = subst (λ c. Spelt ts mid (constant c)) z.0 (subst (λ c. Spelt ts mid (spell.declared c ∷ arguments x.arity)) plain
-        (subst (λ k. Spelt ts mid (spell.declared x ∷ arguments k)) none (on-declared outside stop.Other e1 (up-to (sym (after-no outside m.OpenParen t1 no) ∙ z.1) nothing)))) }))
+    record {
+      item = d;
+      is = refl;
+      read = subst (λ c. Spelt ts mid (constant c)) z.0 (subst (λ c. Spelt ts mid (spell.declared c ∷ arguments x.arity)) plain
+          (subst (λ k. Spelt ts mid (spell.declared x ∷ arguments k)) none (on-declared outside stop.Other e1 (up-to (sym (after-no outside m.OpenParen t1 no) ∙ z.1) nothing))));
+    }))
 
 pub constants-read : (ts : Tokens) (ds : List Decl) (rest : Tokens) → rule.constants ts ≡ Ok (ds, rest) → ListRead 0 false (λ xs. xs) constant spell.comma ds ts rest
 unfolding rule.constants
