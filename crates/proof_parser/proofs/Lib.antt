@@ -1,0 +1,4 @@
+pub mod Keeping
+pub mod Phrases
+pub mod Parts
+pub mod Order

@@ -1,2 +1,4 @@
 pub mod Modules
 pub mod Nests
+pub mod Spelling
+pub mod Laws

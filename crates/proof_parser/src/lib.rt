@@ -9,9 +9,11 @@
 mod clause;
 mod fact;
 mod kind;
+mod laws;
 mod name;
 mod proof;
 mod reader;
 mod unit;
 
+pub use laws::{faults_stand_in_the_list, read_in_order};
 pub use reader::read_module;
