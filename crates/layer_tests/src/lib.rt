@@ -1,5 +1,5 @@
 //! Tests which call the public functions of the lower layers with ample memory: renaming, the instances of schemas, proofs as
-//! flat lists, and the reader of expressions. They are kept in one crate since each test is proved too, so that the lower crates
+//! flat lists, the reader of expressions, and the loading of modules. They are kept in one crate since each test is proved too, so that the lower crates
 //! are proved without them. It has no public items.
 #![tactic(auto)]
 
@@ -19,6 +19,8 @@ mod instances;
 mod nodes;
 #[cfg(test)]
 mod renaming;
+#[cfg(test)]
+mod shelves;
 #[cfg(test)]
 mod syntax;
 #[cfg(test)]
