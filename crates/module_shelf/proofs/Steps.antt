@@ -4,10 +4,10 @@ use Rattle.tla_ast.specs.declared.place.Place.{Place}
 use Rattle.tla_ast.specs.declared.unit.Module.{Module}
 use Rattle.tla_io.specs.Told.{Folder}
 use Rattle.module_shelf.specs.Loading.{Text, Outcome, followed, names, next_module, gone, visited, completed}
-use Rattle.module_shelf.specs.Causes.{Stops}
+use Rattle.module_shelf.specs.Causes.{WhereTold, Stops}
 use Rattle.module_shelf.specs.declared.fault.LoadFault.{LoadFault}
 use Rattle.module_shelf.specs.declared.fault.LoadFault.TheVariants as load
-use Rattle.module_shelf.proofs.Told.{stops-then}
+use Rattle.module_shelf.proofs.Told.{stops-then, stops-as, told-twice}
 
 -- what is still to be done for a module that has begun, where these extended names are left
 abbrev pub left : Folder → List Text → Module → List (Text × Place) → List Module → Outcome (List Module)
@@ -52,3 +52,11 @@ unlast [] (b ∷ c ∷ ys) x y e = cc
 unlast (a ∷ []) [] x y e = cc
 unlast (a ∷ c ∷ xs) [] x y e = cc
 unlast (a ∷ xs) (b ∷ ys) x y e = let t : xs ++ x ∷ [] ≡ ys ++ y ∷ [] = cc in let same = unlast xs ys x y t in cc
+
+-- ---- the whole walk of one module
+
+-- where it stops in the walk, the module's completion stops
+pub stopped : (told : Option Folder) (path : List Text) (m : Module) (old done : List Module) (es : List (Text × Place)) (e : LoadFault)
+    → WhereTold told (λ f. completed (64 - length path) f path m old ≡ left f (path ++ m.name ∷ []) m es done) → WhereTold told (λ f. Stops e (left f (path ++ m.name ∷ []) m es done))
+    → WhereTold told (λ f. Stops e (completed (64 - length path) f path m old))
+stopped told path m old done es e = told-twice told _ _ _ (λ f q h. stops-as e (left f (path ++ m.name ∷ []) m es done) (completed (64 - length path) f path m old) q h)

@@ -1,12 +1,12 @@
 -- What answers say of the loading.
-use Rattle.std.proofs.Common.{◌≡◌, ℕ, ◌<◌, Bool, true, false, List, [], Option, None, Some, Result, Ok, Err, Vec, option_map, unwrap_or, take, refl, ap, sym, subst, ◌∙◌}
+use Rattle.std.proofs.Common.{◌≡◌, ◌≢◌, ℕ, ◌<◌, Bool, true, false, List, [], Option, None, Some, Result, Ok, Err, Vec, option_map, unwrap_or, take, refl, ap, sym, subst, ◌∙◌}
 use Rattle.std.specs.declared.alloc.Global.{Global}
 use Rattle.tla_ast.specs.Word.{is_identifier}
 use Rattle.tla_ast.specs.declared.fault.Fault.{Fault}
 use Rattle.tla_ast.specs.declared.fault.Fault.TheVariants as fault
 use Rattle.tla_ast.specs.declared.unit.Module.{Module}
 use Rattle.tla_io.specs.Told.{Bytes, Folder, Fetches}
-use Rattle.module_shelf.specs.Loading.{Text, Outcome, followed, module_under, module_at, read_text, read_as, module_in}
+use Rattle.module_shelf.specs.Loading.{Text, Outcome, followed, refused, module_under, module_at, read_text, read_as, module_in}
 use Rattle.module_shelf.specs.Causes.{WhereTold, Stops, Ends}
 use Rattle.module_shelf.specs.declared.fault.LoadFault.{LoadFault}
 use Rattle.module_shelf.specs.declared.fault.LoadFault.TheVariants as load
@@ -20,7 +20,7 @@ stops-then load.ReadFault o next h = tt
 stops-then load.Memory o next h = tt
 
 pub stops-as : {A : Type 0} (e : LoadFault) (o p : Outcome A) → p ≡ o → Stops e o → Stops e p
-stops-as e o p q h = subst (λ (r : Outcome A). Stops e r) (sym q) h
+stops-as {A = A} e o p q h = subst (λ (r : Outcome A). Stops e r) (sym q) h
 
 -- what follows from what is told
 pub told-once : (told : Option Folder) (P Q : Folder → Type 0) → ((f : Folder) → P f → Q f) → WhereTold told P → WhereTold told Q
@@ -34,6 +34,13 @@ told-twice (Some f) P Q R go h k = go f h k
 pub told-always : (told : Option Folder) (P : Folder → Type 0) → ((f : Folder) → P f) → WhereTold told P
 told-always None P go = tt
 told-always (Some f) P go = go f
+
+-- ---- a text
+
+-- the fault of a text stops the loading
+pub refusal-stops : (name : Text) (e : Fault) (r : Result Module Fault) → (e ≢ fault.Memory → r ≡ Err e) → Stops (refused name e) (read_as name r)
+refusal-stops name fault.Memory r h = tt
+refusal-stops name (fault.At place kind) r h = ap (read_as name) (h (λ x. cc))
 
 -- ---- a fetch
 

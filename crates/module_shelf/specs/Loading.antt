@@ -1,7 +1,6 @@
 -- Which modules are loaded, or why the loading stops.
-use Rattle.std.specs.Prelude.{ℕ, zero, suc, ◌+◌, Bool, true, false, if◌then◌else◌, nat_le, List, [], ◌∷◌, ◌++◌, length, map, Option, Some, None, Result, Ok, Err}
+use Rattle.std.specs.Prelude.{ℕ, zero, suc, ◌+◌, Bool, true, false, if◌then◌else◌, nat_le, List, [], ◌∷◌, ◌++◌, length, map, Option, Some, None, Result, Ok, Err, codes}
 use Rattle.std.specs.Str.{bytes_eq}
-use Rattle.std_names.specs.Libraries.{is_library_module}
 use Rattle.tla_io.specs.Told.{Bytes, Folder}
 use Rattle.tla_lexer.specs.Tokens.{tokens}
 use Rattle.tla_ast.specs.Answers.{and_then}
@@ -72,12 +71,19 @@ root_module (Some text) folder root = read_text root text
 
 -- ---- the walk
 
+-- the library modules
+unfoldable pub libraries : List Text
+libraries = codes "Naturals" ∷ codes "Integers" ∷ codes "Sequences" ∷ codes "FiniteSets" ∷ codes "TLAPS" ∷ []
+
+abbrev pub is_library : Text → Bool
+is_library name = is_among libraries name
+
 -- An extended name, with its place in the module `inside`, where these names stand on the path from the root (`inside` is the
 -- last) and these modules are complete: whether it has still to be loaded. A library's name means the library. A name on the path
 -- is a cycle. A module that is complete is loaded once. The path and the complete modules are all that were begun: 64 at most.
 unfoldable pub asks : List Text → List Module → Text → Text × Place → Outcome Bool
 asks path done inside e =
-    if is_library_module e.0 then Ok false
+    if is_library e.0 then Ok false
     else (if is_among path e.0 then Err (load.Refused inside e.1 (Cycle e.0))
     else (if is_among (names done) e.0 then Ok false
     else (if nat_le 64 (length path + length done) then Err (load.Refused inside e.1 TooMany) else Ok true)))

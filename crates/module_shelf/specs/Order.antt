@@ -1,15 +1,14 @@
 -- How the modules that are loaded stand.
 use Rattle.std.specs.Prelude.{◌≡◌, ℕ, ◌+◌, ◌≤◌, ◌<◌, Bool, true, false, ◌⊎◌, List, [], ◌∷◌, ◌++◌, length, Option, Some, None}
 use Rattle.std.specs.List.{All}
-use Rattle.std_names.specs.Libraries.{is_library_module}
 use Rattle.tla_ast.specs.Word.{is_among}
 use Rattle.tla_ast.specs.declared.place.Place.{Place}
 use Rattle.tla_ast.specs.declared.unit.Module.{Module}
-use Rattle.module_shelf.specs.Loading.{Text, names}
+use Rattle.module_shelf.specs.Loading.{Text, is_library, names}
 
 -- an extended name means a library module, or one of these
 abbrev pub IsMet : List Module → Text × Place → Type 0
-IsMet ms e = (is_library_module e.0 ≡ true) ⊎ (is_among (names ms) e.0 ≡ true)
+IsMet ms e = (is_library e.0 ≡ true) ⊎ (is_among (names ms) e.0 ≡ true)
 
 -- Each of the modules `ms` extends libraries and modules before it alone, those of `before` among them, and none of those has its
 -- name.

@@ -20,7 +20,8 @@ const AT_MOST: u64 = 1_048_577;
 /// The module of a name that a text is read as, or the text's fault.
 #[tactic(auto, unfolding(crate::specs::Loading::module_in))]
 fn module_in(alloc: Global, name: &Text, text: &[u8]) -> Result<Module, Fault>
-    ensures { Answers result (spec.module_in name.now text.now) }
+    ensures text { Answers result (spec.module_in name.now text.now) }
+    ensures name { IfOk result (λ m. m.name ≡ name.now) }
 {
     let tokens = lex(alloc, text)?;
     let module = read_module(alloc, &tokens)?;

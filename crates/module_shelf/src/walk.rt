@@ -1,7 +1,7 @@
 //! Where a walk stands, and what an extended name asks for.
 
 ghost use Rattle.std.specs.Prelude.{◌≡◌, ◌≤◌, ◌+◌, length, IfOk};
-ghost use Rattle.tla_ast.specs.Word.{is_among};
+ghost use Rattle.tla_ast.specs.Word as word;
 ghost use Rattle.module_shelf.specs.Loading as spec;
 ghost use Rattle.module_shelf.specs.Causes.{Ends, LoadCause, WhereTold};
 ghost use Rattle.module_shelf.specs.Order.{Asked, Leads};
@@ -11,8 +11,7 @@ use crate::read::{fetch_module, refused};
 use core_expr::Text;
 use sqlite_items::Items;
 use std::alloc::Global;
-use std_names::is_library_module;
-use tla_ast::{Fault, Kind, MOST_MODULES, Module, Place};
+use tla_ast::{Fault, Kind, MOST_MODULES, Module, Place, is_among};
 use tla_io::Shelf;
 
 /// A walk: the names on the path from the root to where it stands, and the modules that are complete.
@@ -22,16 +21,33 @@ pub struct Walk {
     pub complete: Items<Module>,
 }
 
+/// The names of the library modules.
+const LIBRARIES: [&[u8]; 5] = [
+    b"Naturals",
+    b"Integers",
+    b"Sequences",
+    b"FiniteSets",
+    b"TLAPS",
+];
+
+/// Whether a library module has this name.
+#[tactic(auto, unfolding(crate::specs::Loading::libraries))]
+fn is_library(name: &[u8]) -> bool
+    ensures { result ≡ spec.is_library name.now }
+{
+    is_among(&LIBRARIES, name)
+}
+
 /// Whether a name is one of these.
 fn is_on(path: &[Text], name: &[u8]) -> bool
-    ensures { result ≡ is_among path.now name.now }
+    ensures { result ≡ word.is_among path.now name.now }
 {
     path.iter().any(|entry| entry.bytes() == name)
 }
 
 /// Whether one of these modules has this name.
 fn is_complete(modules: &[Module], name: &[u8]) -> bool
-    ensures { result ≡ is_among (spec.names modules.now) name.now }
+    ensures { result ≡ word.is_among (spec.names modules.now) name.now }
 {
     modules.iter().any(|module| module.name.bytes() == name)
 }
@@ -51,7 +67,7 @@ fn asks(
     ensures asked { IfOk result (Asked walk.now.path walk.now.complete extended.now) }
 {
     let (name, place) = extended;
-    if is_library_module(name.bytes()) {
+    if is_library(name.bytes()) {
         return Ok(false);
     }
     let kind = if is_on(walk.path.as_slice(), name.bytes()) {

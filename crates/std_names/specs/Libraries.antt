@@ -1,7 +1,6 @@
 -- The names that the library modules give.
-use Rattle.std.specs.Prelude.{ℕ, Bool, if◌then◌else◌, ◌&&◌, nat_eq, List, [], ◌∷◌, Option, Some, None, codes}
+use Rattle.std.specs.Prelude.{ℕ, if◌then◌else◌, ◌&&◌, nat_eq, List, [], ◌∷◌, Option, Some, None, codes}
 use Rattle.std.specs.Cmp.Lexicographic.{pointwise}
-use Rattle.std.specs.List.{list_any}
 
 -- module, name, arity
 abbrev pub Row : Type 0
@@ -52,11 +51,3 @@ arity_in (r ∷ rs) owner name = if pointwise nat_eq r.0 owner && pointwise nat_
 -- the arity of a name that a library module gives
 unfoldable pub library : List ℕ → List ℕ → Option ℕ
 library owner name = arity_in names owner name
-
--- a row is of this module
-abbrev pub has_module : List Row → List ℕ → Bool
-has_module rows owner = list_any (λ (r : Row). pointwise nat_eq r.0 owner) rows
-
--- the library modules are those that give a name
-unfoldable pub is_library_module : List ℕ → Bool
-is_library_module owner = has_module names owner

@@ -7,7 +7,7 @@
 mod libraries;
 mod operators;
 
-pub use libraries::{is_library_module, library};
+pub use libraries::library;
 pub use operators::{Fix, operator};
 
 #[cfg(test)]

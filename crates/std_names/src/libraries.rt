@@ -56,22 +56,3 @@ pub fn library(module: &[u8], name: &[u8]) -> Option<u64>
 {
     arity_in(&NAMES, module, name)
 }
-
-/// Whether a row is of this module.
-fn has_module(table: &[(&[u8], &[u8], u64)], module: &[u8]) -> bool
-    ensures { result ≡ spec.has_module (map (λ r. (r.0.now, r.1.now, r.2)) table.now) «module».now }
-{
-    for row in table {
-        if row.0 == module {
-            return true;
-        }
-    }
-    false
-}
-
-/// Whether a library module has this name: Naturals, Integers, Sequences, FiniteSets or TLAPS.
-pub fn is_library_module(module: &[u8]) -> bool
-    ensures { result ≡ spec.is_library_module «module».now }
-{
-    has_module(&NAMES, module)
-}
