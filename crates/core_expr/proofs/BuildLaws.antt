@@ -50,7 +50,7 @@ pub no_numbers : (ns : List ℕ) → is_empty ns ≡ true → ns ≡ []
 no_numbers [] h = refl
 no_numbers (n ∷ ns) h = cc
 
-only_number : (k : ℕ) (ns : List ℕ) → is_only k ns ≡ true → ns ≡ k ∷ []
+pub only_number : (k : ℕ) (ns : List ℕ) → is_only k ns ≡ true → ns ≡ k ∷ []
 only_number k [] h = cc
 only_number k (n ∷ ns) h =
     let p = and_parts (nat_eq n k) (is_empty ns) h in λ i. eqb-true n k p.0 i ∷ no_numbers ns p.1 i

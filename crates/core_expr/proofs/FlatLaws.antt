@@ -1,6 +1,7 @@
 -- Laws of the nodes of an expression.
 use Rattle.std.proofs.Common.{◌≡◌, ℕ, zero, suc, ◌+◌, ◌-◌, ◌<◌, List, [], ◌∷◌, ◌++◌, length, get_or, Bool, true, false, ◌&&◌, cond, nat_lt, nat_le, inl, inr, refl, ap, sym, ◌∙◌, arith, append_assoc, append-nil, take}
 use Rattle.std.specs.Prelude.{Result, Ok, Err, IfOk}
+use Rattle.std.proofs.Math.Bool.{and_assoc}
 use Rattle.std.proofs.lemmas.Grind.{take_at_read}
 use Rattle.std.proofs.lemmas.Bool.Decides.{nat_tests}
 use Rattle.std.proofs.lemmas.Bool.{and_parts, and_from, cases_lt}
@@ -91,11 +92,7 @@ replace_step rs by i r old new h e o w =
 -- scopes
 rows_scoped-append : (n : ℕ) (rs qs : List Row) → rows_scoped n (rs ++ qs) ≡ (rows_scoped n rs && rows_scoped n qs)
 rows_scoped-append n [] qs = refl
-rows_scoped-append n (r ∷ rs) qs = rw (rows_scoped-append n rs qs) (and_assoc (row_scoped n r.kind r) (rows_scoped n rs) (rows_scoped n qs))
-  where
-    and_assoc : (a b c : Bool) → (a && (b && c)) ≡ ((a && b) && c)
-    and_assoc true b c = refl
-    and_assoc false b c = refl
+rows_scoped-append n (r ∷ rs) qs = rw (rows_scoped-append n rs qs) (sym (and_assoc (row_scoped n r.kind r) (rows_scoped n rs) (rows_scoped n qs)))
 
 and_true : (a : Bool) → (a && true) ≡ a
 and_true true = refl

@@ -1,5 +1,6 @@
 -- Laws of substitution for symbols on the nodes of an expression.
 use Rattle.std.proofs.Common.{◌≡◌, ℕ, zero, suc, ◌+◌, ◌-◌, ◌<◌, ◌≤◌, List, [], ◌∷◌, ◌++◌, length, get_or, Bool, true, false, ◌&&◌, cond, nat_lt, nat_le, nat_eq, Option, Some, None, inl, inr, refl, ap, sym, ◌∙◌, arith, append_assoc, append-nil, length-append, take, drop}
+use Rattle.std.proofs.Math.Bool.{and_assoc}
 use Rattle.std.proofs.Math.Seq.{get_or-append_seam, drop-append_seam, take-append_seam, drop-cons}
 use Rattle.std.proofs.lemmas.Grind.{take_at_read}
 use Rattle.std.proofs.lemmas.Bool.Decides.{nat_tests}
@@ -20,6 +21,7 @@ use Rattle.core_expr.specs.Rename.{named, all_formed, begin, between, argument_r
 use Rattle.core_expr.proofs.Laws.{size-puts, size-subs}
 use Rattle.core_expr.proofs.Formed.{formed-put}
 use Rattle.core_expr.proofs.LiftLaws.{lifted-rows_at}
+use Rattle.core_expr.proofs.BuildLaws.{no_numbers, only_number}
 
 -- filling
 filled-append : (out : List Row) (starts : List ℕ) (r : Row) (rs qs : List Row) → filled out starts r (rs ++ qs) ≡ filled out starts r rs ++ filled out starts r qs
@@ -142,11 +144,6 @@ unfolding own
 size-own zero = refl
 size-own (suc n) = ap suc (size-own n)
 
-only_number : (i : ℕ) (ns : List ℕ) → is_only i ns ≡ true → ns ≡ i ∷ []
-only_number i [] h = cc
-only_number i (n ∷ []) h = ap (λ m. m ∷ []) (eqb-true n i (and_parts (nat_eq n i) true h).0)
-only_number i (n ∷ m ∷ ns) h = let k = (and_parts (nat_eq n i) false h).1 in cc
-
 variable_row : (i : ℕ) (k : RowKind) (b : Row) → b.kind ≡ k → is_variable i k b ≡ true → b ≡ row Bound (i ∷ []) 0 0
 variable_row i Bound b e h =
     let p = and_parts (is_only i b.numbers) (nat_eq b.parts 0 && nat_eq b.depth 0) h in
@@ -162,10 +159,6 @@ variable_row i (Binding f) b e h = cc
 chosen : (x : Bool) (f g : Sym) → cond x (Some f) None ≡ Some g → (x ≡ true) × (f ≡ g)
 chosen true f g h = (refl, cc)
 chosen false f g h = absurd (cc)
-
-no_numbers : (ns : List ℕ) → is_empty ns ≡ true → ns ≡ []
-no_numbers [] h = refl
-no_numbers (n ∷ ns) h = cc
 
 root_row : (n : ℕ) (g : Sym) (k : RowKind) (b : Row) → b.kind ≡ k → root_symbol n k b ≡ Some g → b ≡ row (Symbol g) [] n 0
 root_row n g Bound b e h = cc
@@ -362,11 +355,7 @@ formed-named (p ∷ by) h f b e = go (formed-named by (and_parts (is_well_formed
 
 all_formed-append : (bs cs : List (Sym × Tree)) → all_formed (bs ++ cs) ≡ (all_formed bs && all_formed cs)
 all_formed-append [] cs = refl
-all_formed-append (p ∷ bs) cs = ap (λ x. is_well_formed p.1 && x) (all_formed-append bs cs) ∙ and_assoc (is_well_formed p.1) (all_formed bs) (all_formed cs)
-  where
-    and_assoc : (a b c : Bool) → (a && (b && c)) ≡ ((a && b) && c)
-    and_assoc true b c = refl
-    and_assoc false b c = refl
+all_formed-append (p ∷ bs) cs = ap (λ x. is_well_formed p.1 && x) (all_formed-append bs cs) ∙ sym (and_assoc (is_well_formed p.1) (all_formed bs) (all_formed cs))
 
 pub formed_pair : (bs : List (Sym × Tree)) (i : ℕ) (p : Sym × Tree) → i < length bs → p ≡ get_or bs i p → all_formed (take i bs) ≡ true → is_well_formed p.1 ≡ true → all_formed (take (i + 1) bs) ≡ true
 formed_pair bs i p h e w k =

@@ -42,7 +42,8 @@ impl Model for Expr {
 
     ghost view = { λ e. tree_of e.rows };
 
-    ghost invariant = { λ e. (rows_of (tree_of e.rows) ≡ e.rows) × IsWellFormed (tree_of e.rows) × (e.spans ≡ spans_of (tree_of e.rows)) };
+    ghost invariant = { λ e. (rows_of (tree_of e.rows) ≡ e.rows) × IsWellFormed (tree_of e.rows)
+        × (e.spans ≡ spans_of (tree_of e.rows)) };
 
     ghost inverse = { λ t. record { rows = rows_of t; spans = spans_of t } };
 
@@ -65,7 +66,8 @@ fn joined(alloc: Global, parts: Vec<Expr>) -> Result<Forest, Memory>
 /// The nodes of the parts, one after another, the last under one binder.
 fn joined_under(alloc: Global, parts: Vec<Expr>) -> Result<Forest, Memory>
     requires { 0 < length parts.items }
-    ensures rows { IfOk result (λ f. f.rows ≡ rows_in (front parts.items) ++ rows_at 1 (back parts.items)) }
+    ensures rows { IfOk result (λ f.
+        f.rows ≡ rows_in (front parts.items) ++ rows_at 1 (back parts.items)) }
     ensures spans { IfOk result (λ f. f.spans ≡ spans_in parts.items) }
     ensures formed { IfOk result (λ _. IsTrue (are_well_formed (parts_of parts.items))) }
 {
@@ -226,7 +228,8 @@ impl Expr {
         requires part { k < (row_at self.now i).parts }
         ensures value { result ≡ part_index self.now i k }
         ensures before { result < i }
-        ensures tree { subtree self.now result ≡ slice_index_or (subtrees (subtree self.now i)) k true_ }
+        ensures tree { subtree self.now result
+            ≡ slice_index_or (subtrees (subtree self.now i)) k true_ }
     {
         let after = self.parts(i) - 1 - k;
         let end = back_over(self.spans.as_slice(), after, i as usize);

@@ -45,7 +45,8 @@ fn put_argument(
     index: u64,
     by: u64,
 ) -> Result<(), Memory>
-    ensures { OnOk result (out.new.items ≡ out.old.items ++ lifted by by row.now.depth (argument_rows rows.now starts.now row.now index)) }
+    ensures { OnOk result (out.new.items ≡ out.old.items
+        ++ lifted by by row.now.depth (argument_rows rows.now starts.now row.now index)) }
 {
     if index < row.parts {
         let from = begin(starts, index + 1, rows.len());
@@ -74,7 +75,8 @@ fn fill_one(
     row: &Row,
     node: &Row,
 ) -> Result<(), Memory>
-    ensures { OnOk result (out.new.items ≡ out.old.items ++ filled_row rows.now starts.now row.now node.now) }
+    ensures { OnOk result (out.new.items ≡ out.old.items
+        ++ filled_row rows.now starts.now row.now node.now) }
 {
     if is_loose(node) {
         let index = first_number(node.numbers.as_slice()).saturating_sub(node.depth);
@@ -212,7 +214,8 @@ fn index(alloc: Global, by: &[(Sym, Expr)]) -> Result<HashMap<Sym, usize>, Memor
 
 /// The expression of the pair at the place.
 fn nth(by: &[(Sym, Expr)], at: usize) -> Option<&Expr>
-    ensures { MatchOption result (named_at by.now (Some at) ≡ None) (λ e. named_at by.now (Some at) ≡ Some e.now) }
+    ensures { MatchOption result (named_at by.now (Some at) ≡ None) (λ e.
+        named_at by.now (Some at) ≡ Some e.now) }
 {
     match by.get(at) {
         Some(pair) => Some(&pair.1),
@@ -238,7 +241,8 @@ fn body_for<'a>(
     kind: RowKind,
 ) -> Option<&'a Expr>
     requires { Indexes by.now by.now places.now }
-    ensures { MatchOption result (body_for (named by.now) kind ≡ None) (λ e. body_for (named by.now) kind ≡ Some e.now) }
+    ensures { MatchOption result (body_for (named by.now) kind ≡ None) (λ e.
+        body_for (named by.now) kind ≡ Some e.now) }
 {
     match kind {
         RowKind::Symbol(sym) => find(by, places, sym),

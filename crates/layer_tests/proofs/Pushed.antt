@@ -41,6 +41,3 @@ pushed c waits x g h l =
       listed = listed-push c x g.listed l;
       next = after-push true c x;
     }
-
-pub none_yet : Grows [] true
-none_yet = record { chain = tt; listed = tt; next = refl }

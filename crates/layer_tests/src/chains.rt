@@ -1,19 +1,20 @@
+//! Chains of operators and their trees, as a table.
+
 ghost use Rattle.std.specs.Prelude.{◌≡◌, true, false, [], ◌∷◌, ◌++◌, IfOk, OnOk};
 ghost use Rattle.operator_chain.specs.Chain.{IsChain, is_waiting};
 ghost use Rattle.operator_chain.specs.Listed.{AreListed, IsListed};
 
-use super::*;
 use core_expr::{Memory, Text};
-use sqlite_items::Items;
+use operator_chain::{Ending, Operator, Piece, Suffix, tree};
 use std::alloc::{AllocError, Global};
 use std::collections::VecDeque;
 use std_names::Fix;
-use tla_ast::{Form, Node, Place};
+use tla_ast::{Fault, Form, Kind, Node, Parts, Place};
 
 fn named(alloc: Global, word: &[u8], place: Place) -> Result<Node, Memory> {
     Ok(Node {
         form: Form::Name(Text::of(alloc, word)?),
-        parts: Items::new(alloc),
+        parts: Parts::new(alloc),
         place,
     })
 }
@@ -135,19 +136,24 @@ fn is_written(alloc: Global, node: &Node, text: &[u8]) -> bool {
     }
 }
 
+/// The column of the operator that is refused.
+pub(crate) fn refused(fault: &Fault) -> Option<u64> {
+    match fault {
+        Fault::At {
+            place,
+            kind: Kind::Precedence,
+        } => Some(place.column),
+        _ => None,
+    }
+}
+
 fn is_read(alloc: Global, words: &[&[u8]], want: &Want) -> bool {
     let Ok(chain) = chain_of(alloc, words) else {
         return false;
     };
-    let Ok(has) = has_tree(alloc, &chain) else {
-        return false;
-    };
-    match (tree(alloc, chain), want) {
-        (Ok(node), Want::Tree(text)) => has && is_written(alloc, &node, text),
-        (Err(ChainFault::Precedence(place)), Want::Refused(column)) => {
-            !has && place.column == *column
-        }
-        _ => false,
+    match tree(alloc, chain) {
+        Ok(node) => matches!(want, Want::Tree(text) if is_written(alloc, &node, text)),
+        Err(fault) => matches!(want, Want::Refused(column) if refused(&fault) == Some(*column)),
     }
 }
 

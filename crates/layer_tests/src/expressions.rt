@@ -5,7 +5,7 @@ use core_expr::Memory;
 use layout_parser::read_expr;
 use std::alloc::{AllocError, Global};
 use std::test::Fail;
-use tla_ast::{Kind, Place, SynFault, Tokens};
+use tla_ast::{Fault, Kind, Place, Tokens};
 use tla_lexer::lex;
 
 /// A text as the second line and the further lines of a module.
@@ -62,8 +62,8 @@ fn push_reading(alloc: Global, out: &mut Vec<u8>, tokens: &Tokens, way: &Way) ->
             push_node(out, &node, way.places)?;
             Ok(())
         }
-        Err(SynFault::At { place, kind }) => push_refusal(alloc, out, &place, &kind),
-        Err(SynFault::Memory) => Err(Memory),
+        Err(Fault::At { place, kind }) => push_refusal(alloc, out, &place, &kind),
+        Err(Fault::Memory) => Err(Memory),
     }
 }
 
@@ -319,7 +319,7 @@ fn places_of_nodes(rt: HostRuntime) -> Result<(), Fail> {
 }
 
 /// Texts with no reading, and the fault.
-const REFUSED: [(&str, &str); 178] = [
+const REFUSED: [(&str, &str); 186] = [
     ("[A]_ ,", "2:6 Expected"),
     ("{<<a>> \\in [A]_ : b}", "2:17 Unsupported :"),
     ("", "3:1 Expected"),
@@ -441,7 +441,15 @@ const REFUSED: [(&str, &str); 178] = [
     ("[]x'[1] = )", "2:4 Precedence"),
     ("[]x')", "2:4 Precedence"),
     ("{a \\in S = ) : A}", "2:10 Precedence"),
-    ("{a \\in S = T = U : A}", "2:10 Precedence"),
+    ("{a \\in S = T = U : A}", "2:14 Precedence"),
+    ("[x \\in a = b = c |-> e]", "2:14 Precedence"),
+    ("[x \\in S = (a = b = c) |-> e]", "2:10 Precedence"),
+    ("{x \\in []y' : P}", "2:11 Precedence"),
+    ("{x \\in a = b = c, P}", "2:10 Precedence"),
+    ("[WF_a |-> b]", "2:7 Unsupported |->"),
+    ("[SF_(a) |-> b]", "2:9 Unsupported |->"),
+    ("(WF_a |-> b)", "2:7 Expected"),
+    ("[WF_ |-> b]", "2:6 Expected"),
     ("{a \\in S = (b = c = d) : A}", "2:10 Precedence"),
     ("{a \\in (S = T = U) : A}", "2:15 Precedence"),
     ("[a \\in S = ) |-> A]", "2:10 Precedence"),

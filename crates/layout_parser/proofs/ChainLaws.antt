@@ -1,5 +1,5 @@
 -- A chain piece by piece.
-use Rattle.std.proofs.Common.{◌≡◌, ℕ, suc, ◌-◌, ◌<◌, arith, if◌then◌else◌, Result, zero, Bool, true, false, List, [], ◌∷◌, ◌++◌, Option, Some, None, Ok, Err, refl, sym, subst, ap, ◌∙◌, append_assoc, append-nil}
+use Rattle.std.proofs.Common.{◌≡◌, ℕ, suc, ◌+◌, ◌-◌, ◌<◌, ◌≤◌, arith, if◌then◌else◌, Result, zero, Bool, true, false, List, [], ◌∷◌, ◌++◌, Option, Some, None, Ok, Err, refl, sym, subst, ap, ◌∙◌, append_assoc, append-nil}
 use Rattle.std.proofs.lemmas.Option.{none-some}
 use Rattle.std.specs.Result.{IfOk}
 use Rattle.std.specs.Prelude.{MatchOption}
@@ -25,6 +25,7 @@ use Rattle.layout_parser.specs.declared.flat.Step.TheVariants.{More, Ended, Brok
 use Rattle.token_reader.specs.declared.setting.Stop.TheVariants as stop
 use Rattle.layout_parser.specs.declared.flat.Flat.{Flat}
 use Rattle.core_expr.specs.declared.memory.Memory.{Memory}
+use Rattle.token_reader.proofs.Turns.{turn}
 use Rattle.layout_parser.specs.Nests.{Flats, ended}
 use Rattle.token_reader.specs.Marks.{Text, spelling}
 use Rattle.token_reader.specs.Input.{Tokens, Outcome, first, next, here, is_inside, mark, name, too_deep}
@@ -32,11 +33,14 @@ use Rattle.layout_parser.specs.Reading.{Chain, ChainReader, Stepped, behind, lef
 
 -- ---- the loop
 
+pub one_more : {X : Type 0} {x : X} (f : ℕ → X) (n at : ℕ) → at < n → x ≡ f (n - at) → x ≡ f (suc (n - (at + 1)))
+one_more f n at below e = e ∙ ap f (turn n at below)
+
+pub no_more : {X : Type 0} {x : X} (f : ℕ → X) (n at : ℕ) → n ≤ at → x ≡ f (n - at) → x ≡ f 0
+no_more f n at done e = let none : n - at ≡ 0 = omega arith in e ∙ ap f none
+
 behind-behind : (xs ys : List Piece) (c : Chain) → behind xs (behind ys c) ≡ behind (xs ++ ys) c
 behind-behind xs ys c = ap (λ l. (l, c.1)) (sym (append_assoc xs ys c.0))
-
-pub behind-nil : (c : Chain) → c ≡ behind [] c
-behind-nil c = refl
 
 module _ (left : ℕ) (inner : ChainReader) where
   pub chain-more : (n : ℕ) (s : Setting) (waits opens : Bool) (ts rest : Tokens) (x : Piece) (xs : List Piece) (c : Chain)
@@ -79,16 +83,16 @@ IsGood waits Ended = Unit {0}
 IsGood waits (Broken None f) = Unit {0}
 IsGood waits (Broken (Some x) f) = IsChain waits (x ∷ []) × IsListed x
 
-same-operator : (p o : Operator) → Some p ≡ Some o → p ≡ o
-same-operator p o e = ap (from_some p) e
+pub same-some : {A : Type 0} (a b : A) → Some a ≡ Some b → a ≡ b
+same-some {A} a b e = ap from_some e
   where
-    from_some : Operator → Option Operator → Operator
-    from_some d (Some x) = x
-    from_some d None = d
+    from_some : Option A → A
+    from_some (Some x) = x
+    from_some None = a
 
 -- an operator that a token is has its row of the table
 by-row : (t : Token) (fix : Fix) (r : Option (ℕ × ℕ × Bool)) (o : Operator) → operator (spelling t.tok) fix ≡ r → operator_at t r ≡ Some o → operator o.sign fix ≡ Some (o.low, o.high, o.is_left)
-by-row t fix (Some row) o is e = subst (λ p. operator p.sign fix ≡ Some (p.low, p.high, p.is_left)) (same-operator _ o e) is
+by-row t fix (Some row) o is e = subst (λ p. operator p.sign fix ≡ Some (p.low, p.high, p.is_left)) (same-some _ o e) is
 by-row t fix None o is e = absurd (none-some _ e)
 
 pub operator-listed : (s : Setting) (fix : Fix) (ts : Tokens) (o : Operator) → operator_in s fix ts ≡ Some o → operator o.sign fix ≡ Some (o.low, o.high, o.is_left)

@@ -1,5 +1,5 @@
 -- Whole readings: the laws.
-use Rattle.std.proofs.Common.{◌≡◌, ℕ, suc, ◌+◌, ◌-◌, ◌≤◌, ◌<◌, Bool, true, false, List, [], ◌∷◌, ◌++◌, length, take, drop, Result, Ok, Err, refl, sym, ap, subst, ◌∙◌, append_assoc, append-nil, arith, nat_lt}
+use Rattle.std.proofs.Common.{◌≡◌, ℕ, zero, suc, ◌+◌, ◌-◌, ◌≤◌, ◌<◌, Bool, true, List, [], ◌∷◌, ◌++◌, length, take, drop, Result, Ok, Err, refl, sym, ap, subst, ◌∙◌, append_assoc, arith, nat_lt}
 use Rattle.std.specs.List.{All}
 use Rattle.std.proofs.lemmas.Bool.{true≢false, ltb-true, lt-ltb}
 use Rattle.std.proofs.lemmas.List.{take-append-drop, length-append, length-drop}
@@ -11,14 +11,14 @@ use Rattle.tla_ast.specs.declared.tree.Node.{Node}
 use Rattle.tla_ast.specs.Listing.{Ends}
 use Rattle.operator_chain.specs.declared.chain.Piece.{Piece}
 use Rattle.operator_chain.specs.Chain.{OneRightTree}
-use Rattle.token_reader.specs.Input.{Tokens, Outcome, first}
+use Rattle.token_reader.specs.Input.{Tokens, Outcome}
 use Rattle.layout_parser.specs.Reading as rule
 use Rattle.layout_parser.specs.Reading.{Chain, reading, nested, outermost, located, nestings_left}
 use Rattle.layout_parser.specs.Laws.{IsReading, ReadInOrder, InsideTheRegion, EndIsExact, EndsBeforeTheLast, EndIsThePlace}
 use Rattle.token_reader.specs.declared.setting.Setting.{Setting}
-use Rattle.layout_parser.specs.Spelling.{Stops, Symbols, expression, MayUse, Spelled, none, token, of_operand, of_tree, of_no_bullet}
+use Rattle.layout_parser.specs.Spelling.{Symbols, expression, MayUse, Spelled, none, token, of_operand, of_tree, of_no_bullet}
 use Rattle.layout_parser.proofs.Steps.{Read, nothing, finish, on-finished, le}
-use Rattle.layout_parser.proofs.Chains.{good-nested, IsMore, more-length, some-used}
+use Rattle.layout_parser.proofs.Chains.{good-nested, more-length, some-used}
 
 -- ---- each token may be used
 
@@ -52,23 +52,24 @@ may-use {region} (of_tree {inner = inner} {used = used} {more = more} t is right
 -- ---- readings
 
 -- a reading: the chain that it was, and the tokens that it used
-record Told (depth : ℕ) (s : Setting) (ts : Tokens) (n : Node) (rest : Tokens) : Type 0 where
+record Told (left : ℕ) (s : Setting) (ts : Tokens) (n : Node) (rest : Tokens) : Type 0 where
   pub xs : List Piece
-  pub chain : nested (nestings_left depth) (length ts) s true ts ≡ (xs, Ok rest)
+  pub chain : nested left (length ts) s true ts ≡ (xs, Ok rest)
   pub read : Read s.region s.has_at ts rest (expression s.region s.has_at n ∷ [])
 
-told : OneRightTree → (depth : ℕ) (s : Setting) (ts : Tokens) (n : Node) (rest : Tokens) → IsReading depth s ts n rest → Told depth s ts n rest
-told law depth s ts n rest e = let c : Chain = nested (nestings_left depth) (length ts) s true ts in record {
+told : OneRightTree → (left : ℕ) (s : Setting) (ts : Tokens) (n : Node) (rest : Tokens) → IsReading left s ts n rest → Told left s ts n rest
+unfolding rule.part
+told law left s ts n rest e = let c : Chain = nested left (length ts) s true ts in record {
   xs = c.0;
   chain = (finish c n rest e).chain;
-  read = on-finished law s c (le s.region) e (λ xs us at. let all = good-nested law (nestings_left depth) (length ts) s true ts us xs at in (all.0, all.1 (le (length ts)))) nothing;
+  read = on-finished law s c (le s.region) e (λ xs us at. let all = good-nested law left (length ts) s true ts us xs at in (all.0, all.1 (le (length ts)))) nothing;
 }
 
 pub in-order : OneRightTree → ReadInOrder
-in-order law depth s ts n rest e = let h = told law depth s ts n rest e in (h.read.used, h.read.is, h.read.spelled)
+in-order law left s ts n rest e = let h = told law left s ts n rest e in (h.read.used, h.read.is, h.read.spelled)
 
 pub inside : OneRightTree → InsideTheRegion
-inside law depth s ts n rest e = let h = told law depth s ts n rest e in (
+inside law left s ts n rest e = let h = told law left s ts n rest e in (
   h.read.used,
   h.read.is,
   each-all (λ t. nat_lt s.region t.place.column ≡ true) h.read.used
@@ -78,8 +79,8 @@ inside law depth s ts n rest e = let h = told law depth s ts n rest e in (
 -- ---- the end of a reading
 
 pub exact : OneRightTree → EndIsExact
-exact law depth s ts n rest e = let h = told law depth s ts n rest e in
-    let all = good-nested law (nestings_left depth) (length ts) s true ts rest h.xs h.chain in
+exact law left s ts n rest e = let h = told law left s ts n rest e in
+    let all = good-nested law left (length ts) s true ts rest h.xs h.chain in
     all.1 (le (length ts))
 
 -- ---- the last token
@@ -92,8 +93,8 @@ ends-behind region (t ∷ []) (u ∷ us) each e = e.1
 ends-behind region (t ∷ u ∷ us) rest each e = ends-behind region (u ∷ us) rest each.1 e.1
 
 pub before-last : OneRightTree → EndsBeforeTheLast
-before-last law depth s ts n rest ends e =
-    let h = told law depth s ts n rest e in
+before-last law left s ts n rest ends e =
+    let h = told law left s ts n rest e in
     let parts : length ts ≡ length h.read.used + length rest = ap length h.read.is ∙ length-append h.read.used rest in
     let some : 0 < length h.read.used = more-length h.read.used (some-used h.read.spelled tt) in
     (ends-behind s.region h.read.used rest (may-use h.read.spelled) (subst Ends h.read.is ends), omega arith)
@@ -115,12 +116,12 @@ back ts pre rest e =
 
 pub at-place : OneRightTree → EndIsThePlace
 unfolding reading
-at-place law ts from region depth n to e = by-outcome (rule.expression depth (outermost region) (drop from ts)) refl e
+at-place law ts from region depth n to e = by-outcome (rule.expression (nestings_left depth) (outermost region) (drop from ts)) refl e
   where
-    by-outcome : (r : Outcome Node) → rule.expression depth (outermost region) (drop from ts) ≡ r → located ts r ≡ Ok (n, to) → IsReading depth (outermost region) (drop from ts) n (drop to ts)
+    by-outcome : (r : Outcome Node) → rule.expression (nestings_left depth) (outermost region) (drop from ts) ≡ r → located ts r ≡ Ok (n, to) → IsReading (nestings_left depth) (outermost region) (drop from ts) n (drop to ts)
     by-outcome (Ok p) is f =
         let same = same-pair (p.0, length ts - length p.1) (n, to) f in
-        let h = told law depth (outermost region) (drop from ts) p.0 p.1 is in
+        let h = told law (nestings_left depth) (outermost region) (drop from ts) p.0 p.1 is in
         let split : ts ≡ (take from ts ++ h.read.used) ++ p.1 = sym (take-append-drop from ts) ∙ ap (λ l. take from ts ++ l) h.read.is ∙ sym (append_assoc (take from ts) h.read.used p.1) in
         let rest-is : p.1 ≡ drop to ts = sym (back ts (take from ts ++ h.read.used) p.1 split) ∙ ap (λ q. drop q.1 ts) same in
         is ∙ (λ i. Ok ((same i).0, rest-is i))
@@ -139,7 +140,7 @@ more-ends (t ∷ ts) e = omega arith
 -- where a reading at a place of a list ends
 pub within-list : OneRightTree → EndsBeforeTheLast → (ts : Tokens) (from region depth : ℕ) (n : Node) (to : ℕ) → Ends ts → from < length ts → reading ts from region depth ≡ Ok (n, to) → (from < to) × (to < length ts)
 within-list law last ts from region depth n to ends below e =
-    let h = last depth (outermost region) (drop from ts) n (drop to ts) (ends-drop from ts below ends) (at-place law ts from region depth n to e) in
+    let h = last (nestings_left depth) (outermost region) (drop from ts) n (drop to ts) (ends-drop from ts below ends) (at-place law ts from region depth n to e) in
     let some : 0 < length (drop to ts) = more-ends (drop to ts) h.0 in
     let fewer : length (drop to ts) < length (drop from ts) = h.1 in
     let a : length (drop from ts) ≡ length ts - from = length-drop from ts in

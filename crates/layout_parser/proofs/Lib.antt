@@ -5,3 +5,4 @@ pub mod Steps
 pub mod Readers
 pub mod Chains
 pub mod Ends
+pub mod Keeping

@@ -25,7 +25,7 @@ use Rattle.token_reader.specs.declared.setting.Around.TheVariants as around
 use Rattle.token_reader.specs.declared.setting.Setting.{Setting}
 use Rattle.token_reader.specs.declared.setting.Stop.TheVariants as stop
 use Rattle.token_reader.specs.Marks.{spelling, same_mark, mark_of, is_final}
-use Rattle.token_reader.specs.Input.{Tokens, Outcome, first, next, here, sees, sees_second, eat, declared, and_then, within, is_tuple, is_inside, mark, right_of, with_at, after}
+use Rattle.token_reader.specs.Input.{Tokens, first, next, here, sees, sees_second, eat, declared, and_then, within, is_tuple, is_inside, mark, right_of, with_at, after}
 use Rattle.token_reader.specs.Lists.{gathered, gathered_from, put_last, ask, names}
 use Rattle.token_reader.proofs.Steps.{got, refused, same-end, by-test, by-reader, begun, after-no, marks-same, same-marks}
 use Rattle.token_reader.specs.declared.setting.Stop.{Stop}
@@ -35,7 +35,7 @@ use Rattle.layout_parser.specs.Spelling as spell
 use Rattle.layout_parser.specs.Spelling.{Stops, Symbols, sign, sign_at, expression, same, between, word, Operand, Subscript}
 use Rattle.layout_parser.proofs.ChainLaws.{member-listed}
 use Rattle.layout_parser.proofs.Belongs.{member-fits}
-use Rattle.layout_parser.proofs.Steps.{ChainRead, Derives, Good, ItemRead, Read, Separates, Stands, Subscribes, ask-separates, at-any-place, behind-sign, both, derived, derived-as, eaten, finish, le, list-read, mark-separates, nothing, on-declared, on-eat, on-finished, on-no, on-no-bullet, on-operand, on-sign, on-sign-at, on-token, on-word, puts, puts-last, puts-same, stands, stands-at, subscribed, subscribed-as, up-from, up-to}
+use Rattle.layout_parser.proofs.Steps.{ChainRead, Derives, Good, ItemRead, ListRead, Read, Separates, Stands, Subscribes, ask-separates, at-any-place, behind-sign, both, derived, derived-as, eaten, le, list-read, mark-separates, nothing, on-declared, on-eat, on-finished, on-no, on-no-bullet, on-operand, on-sign, on-sign-at, on-token, on-word, puts, puts-last, puts-same, stands, stands-at, subscribed, subscribed-as, up-from, up-to}
 
 single : (x : Node) (xs : List Node) → nat_eq (length (x ∷ xs)) 1 ≡ true → xs ≡ []
 single x [] e = refl
@@ -64,17 +64,12 @@ puts-arms found [] = sym (append-nil found)
 puts-arms found (a ∷ more) = puts-arms (with_arm found a) more ∙ append_assoc found (a.0 ∷ a.1 ∷ []) (spell.arm_parts more)
 
 -- names have been read
-pub record Named (s : Setting) (ns : List Decl) (ts rest : Tokens) : Type 0 where
-  pub head : Decl
-  pub tail : List Decl
-  pub are : ns ≡ head ∷ tail
-  pub read : Read s.region s.has_at ts rest (spell.names head tail)
+abbrev Named : Setting → List Decl → Tokens → Tokens → Type 0
+Named s ns ts rest = ListRead s.region s.has_at (λ ds. ds) (λ d. spell.declared d ∷ []) spell.comma ns ts rest
 
 names-read : (s : Setting) (before : Stop) (ts : Tokens) (ns : List Decl) (rest : Tokens) → names s before ts ≡ Ok (ns, rest) → Named s ns ts rest
-names-read s before ts ns rest e =
-    let h = list-read s.region s.has_at put_last (λ d. d) (λ d. spell.declared d ∷ []) spell.comma (eat s m.Comma) (declared s before)
-    (λ us mid d f. record { item = d; is = refl; read = on-declared s before f nothing }) (mark-separates s m.Comma refl) [] ts ns rest e in
-    record { head = h.head; tail = h.tail; are = h.are ∙ puts-same [] (h.head ∷ h.tail); read = h.read }
+names-read s before = list-read s.region s.has_at put_last (λ d. d) (λ d. spell.declared d ∷ []) spell.comma (eat s m.Comma) (declared s before)
+    (λ us mid d f. record { item = d; is = refl; read = on-declared s before f nothing }) (mark-separates s m.Comma refl) [] (λ ds. ds) (puts-same [])
 
 other-bullet : (column : ℕ) (k : Mark) (ts : Tokens) → (nat_eq (here ts).column column && same_mark (mark ts) k) ≡ false → mark_of (first ts).tok ≡ k → (here ts).column ≢ column
 unfolding mark
@@ -100,18 +95,10 @@ module _ (left : ℕ) (inner : ChainReader) (law : OneRightTree) (good : Good in
 
   -- ---- lists
 
-  -- one or more expressions behind those found
-  record Listed (s : Setting) (found xs : List Node) (ts rest : Tokens) : Type 0 where
-    pub head : Node
-    pub tail : List Node
-    pub are : xs ≡ found ++ head ∷ tail
-    pub read : Read s.region s.has_at ts rest (spell.expressions s.region s.has_at head tail)
-
-  expressions : (s : Setting) (found : List Node) (ts : Tokens) (xs : List Node) (rest : Tokens) → rule.expressions left inner s found ts ≡ Ok (xs, rest) → Listed s found xs ts rest
-  expressions s found ts xs rest e =
-      let h = list-read s.region s.has_at put_last (λ x. x) (λ x. same s.region s.has_at x ∷ []) spell.comma (eat s m.Comma) (part left inner s)
-      (λ us mid x f. record { item = x; is = refl; read = on-same s f nothing }) (mark-separates s m.Comma refl) found ts xs rest e in
-      record { head = h.head; tail = h.tail; are = h.are ∙ puts-same found (h.head ∷ h.tail); read = h.read }
+  expressions : (s : Setting) (found : List Node) (ts : Tokens) (xs : List Node) (rest : Tokens) → rule.expressions left inner s found ts ≡ Ok (xs, rest)
+      → ListRead s.region s.has_at (λ ys. found ++ ys) (λ y. same s.region s.has_at y ∷ []) spell.comma xs ts rest
+  expressions s found = list-read s.region s.has_at put_last (λ x. x) (λ x. same s.region s.has_at x ∷ []) spell.comma (eat s m.Comma) (part left inner s)
+      (λ us mid x f. record { item = x; is = refl; read = on-same s f nothing }) (mark-separates s m.Comma refl) found (λ ys. found ++ ys) (puts-same found)
 
   -- ---- names, parentheses, angle brackets
 
@@ -281,25 +268,19 @@ module _ (left : ℕ) (inner : ChainReader) (law : OneRightTree) (good : Good in
   field-of s k kept ts mid f e = got {o = declared s stop.Other ts} e (λ d t1 e1 f1. eaten s stop.Other k _ kept f1 (λ at f2. got {o = part left inner s (next t1)} f2 (λ x t3 e3 f3. let z = same-end (d, x) f t3 mid f3 in
       record { item = (d, x); is = sym z.0; read = on-declared s stop.Other e1 (on-sign at (on-same s e3 (up-to z.1 nothing))) })))
 
-  record Fielded (s : Setting) (k : Mark) (f : Fields) (ts rest : Tokens) : Type 0 where
-    pub head : Decl × Node
-    pub tail : List (Decl × Node)
-    pub are : f ≡ record { names = spell.names_of (head ∷ tail); parts = spell.parts_of (head ∷ tail) }
-    pub read : Read s.region s.has_at ts rest (spell.fields s.region s.has_at k head tail)
-
-  fields : (s : Setting) (k : Mark) (ts : Tokens) (f : Fields) (rest : Tokens) → is_final k ≡ false → rule.fields left inner s k ts ≡ Ok (f, rest) → Fielded s k f ts rest
-  fields s k ts f rest kept e =
-      let h = list-read s.region s.has_at with_field (λ f. f) (spell.field s.region s.has_at k) spell.comma (eat s m.Comma) (rule.field_of left inner s k) (field-of s k kept) (mark-separates s m.Comma refl) rule.no_fields ts f rest e in
-      record { head = h.head; tail = h.tail; are = h.are ∙ puts-fields rule.no_fields (h.head ∷ h.tail); read = h.read }
+  fields : (s : Setting) (k : Mark) → is_final k ≡ false → (ts : Tokens) (f : Fields) (rest : Tokens) → rule.fields left inner s k ts ≡ Ok (f, rest)
+      → ListRead s.region s.has_at (λ fs. record { names = spell.names_of fs; parts = spell.parts_of fs }) (spell.field s.region s.has_at k) spell.comma f ts rest
+  fields s k kept = list-read s.region s.has_at with_field (λ f. f) (spell.field s.region s.has_at k) spell.comma (eat s m.Comma) (rule.field_of left inner s k)
+      (field-of s k kept) (mark-separates s m.Comma refl) rule.no_fields (λ fs. record { names = spell.names_of fs; parts = spell.parts_of fs }) (puts-fields rule.no_fields)
 
   record-of : (s : Setting) (ts rest : Tokens) (n : Node) → Stands s.region m.OpenSquare ts → rule.record_of left inner s (here ts) (next ts) ≡ Ok (n, rest) → Derives s.region s.has_at ts rest n
   unfolding rule.record_of
-  record-of s ts rest n at e = got e (λ f mid e1 f1. let h = fields s m.Maps (next ts) f mid refl e1 in eaten s stop.Expression m.CloseSquare _ refl f1 (λ close f2.
+  record-of s ts rest n at e = got e (λ f mid e1 f1. let h = fields s m.Maps refl (next ts) f mid e1 in eaten s stop.Expression m.CloseSquare _ refl f1 (λ close f2.
       derived-as f2 (ap (λ g. rule.node (form.Record g.names) g.parts (here ts)) h.are) (spell.records h.head h.tail (here ts)) (on-sign-at at (both h.read (on-sign close nothing)))))
 
   record-set : (s : Setting) (ts rest : Tokens) (n : Node) → Stands s.region m.OpenSquare ts → rule.record_set left inner s (here ts) (next ts) ≡ Ok (n, rest) → Derives s.region s.has_at ts rest n
   unfolding rule.record_set
-  record-set s ts rest n at e = got e (λ f mid e1 f1. let h = fields s m.Colon (next ts) f mid refl e1 in eaten s stop.Expression m.CloseSquare _ refl f1 (λ close f2.
+  record-set s ts rest n at e = got e (λ f mid e1 f1. let h = fields s m.Colon refl (next ts) f mid e1 in eaten s stop.Expression m.CloseSquare _ refl f1 (λ close f2.
       derived-as f2 (ap (λ g. rule.node (form.RecordSet g.names) g.parts (here ts)) h.are) (spell.record_set h.head h.tail (here ts)) (on-sign-at at (both h.read (on-sign close nothing)))))
 
   -- ---- paths and updates
@@ -326,17 +307,9 @@ module _ (left : ℕ) (inner : ChainReader) (law : OneRightTree) (good : Good in
       by-chain ([], Ok us) h f = refused f
       by-chain (ys, Err x) h f = refused f
 
-  record Keyed (s : Setting) (ks : List Key) (ts rest : Tokens) : Type 0 where
-    pub head : Key
-    pub tail : List Key
-    pub are : ks ≡ head ∷ tail
-    pub read : Read s.region s.has_at ts rest (spell.keys s.region s.has_at head tail)
-
-  keys : (s : Setting) (ts : Tokens) (ks : List Key) (rest : Tokens) → rule.keys left inner s ts ≡ Ok (ks, rest) → Keyed s ks ts rest
-  keys s ts ks rest e =
-      let h = list-read s.region s.has_at put_last (λ k. k) (spell.key_symbols s.region s.has_at) [] (ask (begins_key s)) (rule.key_of left inner s)
-      (λ us mid k f. record { item = k; is = refl; read = key-of s us mid k f }) (ask-separates s.region s.has_at (begins_key s)) [] ts ks rest e in
-      record { head = h.head; tail = h.tail; are = h.are ∙ puts-same [] (h.head ∷ h.tail); read = h.read }
+  keys : (s : Setting) (ts : Tokens) (ks : List Key) (rest : Tokens) → rule.keys left inner s ts ≡ Ok (ks, rest) → ListRead s.region s.has_at (λ ks. ks) (spell.key_symbols s.region s.has_at) [] ks ts rest
+  keys s = list-read s.region s.has_at put_last (λ k. k) (spell.key_symbols s.region s.has_at) [] (ask (begins_key s)) (rule.key_of left inner s)
+      (λ us mid k f. record { item = k; is = refl; read = key-of s us mid k f }) (ask-separates s.region s.has_at (begins_key s)) [] (λ ks. ks) (puts-same [])
 
   update : (s : Setting) (ts mid : Tokens) (u : Path × Node) → rule.update left inner s ts ≡ Ok (u, mid) → ItemRead s.region s.has_at updated (spell.update s.region s.has_at) u ts mid
   unfolding rule.update
@@ -347,16 +320,10 @@ module _ (left : ℕ) (inner : ChainReader) (law : OneRightTree) (good : Good in
         read = on-sign bang (both h.read (on-sign equal (on-part (with_at s) (le s.region) e3 (up-to z.1 nothing))));
       }))))
 
-  record Revised (s : Setting) (f : Node) (us : Updates) (ts rest : Tokens) : Type 0 where
-    pub head : spell.Update
-    pub tail : List spell.Update
-    pub are : us ≡ record { paths = spell.paths_of (head ∷ tail); parts = f ∷ spell.values_of (head ∷ tail) }
-    pub read : Read s.region s.has_at ts rest (spell.updates s.region s.has_at head tail)
-
-  updates : (s : Setting) (f : Node) (ts : Tokens) (us : Updates) (rest : Tokens) → rule.updates left inner s f ts ≡ Ok (us, rest) → Revised s f us ts rest
-  updates s f ts us rest e =
-      let h = list-read s.region s.has_at with_update updated (spell.update s.region s.has_at) spell.comma (eat s m.Comma) (rule.update left inner s) (update s) (mark-separates s m.Comma refl) (rule.no_updates f) ts us rest e in
-      record { head = h.head; tail = h.tail; are = h.are ∙ puts-updates (rule.no_updates f) (h.head ∷ h.tail); read = h.read }
+  updates : (s : Setting) (f : Node) (ts : Tokens) (us : Updates) (rest : Tokens) → rule.updates left inner s f ts ≡ Ok (us, rest)
+      → ListRead s.region s.has_at (λ us. record { paths = spell.paths_of us; parts = f ∷ spell.values_of us }) (spell.update s.region s.has_at) spell.comma us ts rest
+  updates s f = list-read s.region s.has_at with_update updated (spell.update s.region s.has_at) spell.comma (eat s m.Comma) (rule.update left inner s)
+      (update s) (mark-separates s m.Comma refl) (rule.no_updates f) (λ us. record { paths = spell.paths_of us; parts = f ∷ spell.values_of us }) (puts-updates (rule.no_updates f))
 
   square-end : (outer : Around) (s : Setting) (ts mid rest : Tokens) (n x : Node) → Stands s.region m.OpenSquare ts → Read s.region s.has_at (next ts) mid (same s.region s.has_at x ∷ [])
       → rule.square_end left inner outer s (here ts) x mid ≡ Ok (n, rest) → Derives s.region s.has_at ts rest n
@@ -414,18 +381,15 @@ module _ (left : ℕ) (inner : ChainReader) (law : OneRightTree) (good : Good in
   unfolding rule.bound
   bound s ts mid g e = got {o = names s stop.Bound ts} e (λ ns t1 e1 f1. with-set s ns ts t1 g mid (names-read s stop.Bound ts ns t1 e1) f1)
 
-  record Bounded (s : Setting) (gs : List Group) (ts rest : Tokens) : Type 0 where
-    pub head : spell.Bound
-    pub tail : List spell.Bound
-    pub are : gs ≡ map spell.group_of (head ∷ tail)
-    pub read : Read s.region s.has_at ts rest (spell.bounds s.region s.has_at head tail)
+  abbrev Bounded : Setting → List Group → Tokens → Tokens → Type 0
+  Bounded s gs ts rest = ListRead s.region s.has_at (map spell.group_of) (spell.bound s.region s.has_at) spell.comma gs ts rest
 
   bounds : (s : Setting) (ns : List Decl) (ts t1 : Tokens) (gs : List Group) (rest : Tokens) → Named s ns ts t1 → rule.bounds left inner s ns t1 ≡ Ok (gs, rest) → Bounded s gs ts rest
   unfolding rule.bounds
   bounds s ns ts t1 gs rest h e = got {o = rule.bound_set left inner s ns t1} e (λ g t2 e2 f2. let one = with-set s ns ts t1 g t2 h e2 in by-reader {b = sees s m.Comma t2} (rule.further_bounds left inner s (g ∷ [])) _ f2
       (λ comma f3. let z = list-read s.region s.has_at put_last spell.group_of (spell.bound s.region s.has_at) spell.comma (eat s m.Comma) (rule.bound left inner s) (bound s) (mark-separates s m.Comma refl)
-      (g ∷ []) (after s m.Comma t2) gs rest f3 in
-      record { head = one.item; tail = z.head ∷ z.tail; are = z.are ∙ puts-last spell.group_of (g ∷ []) (z.head ∷ z.tail) ∙ ap (λ q. q ∷ map spell.group_of (z.head ∷ z.tail)) one.is; read = both one.read (on-eat s refl comma z.read) })
+      (g ∷ []) (λ bs. g ∷ map spell.group_of bs) (puts-last spell.group_of (g ∷ [])) (after s m.Comma t2) gs rest f3 in
+      record { head = one.item; tail = z.head ∷ z.tail; are = z.are ∙ ap (λ q. q ∷ map spell.group_of (z.head ∷ z.tail)) one.is; read = both one.read (on-eat s refl comma z.read) })
       (λ none f3. let z = same-end (g ∷ []) gs (after s m.Comma t2) rest f3 in
       record { head = one.item; tail = []; are = sym z.0 ∙ ap (λ q. q ∷ []) one.is; read = up-to (sym (after-no s m.Comma t2 none) ∙ z.1) one.read }))
 
@@ -471,20 +435,14 @@ module _ (left : ℕ) (inner : ChainReader) (law : OneRightTree) (good : Good in
       record { item = (x, y); is = sym z.0; read = on-same s e1 (on-sign arrow (on-same s e3 (up-to z.1 nothing))) })))
 
   arm-separates : (s : Setting) → Separates s.region s.has_at (sign m.Always ∷ []) (further_arm s)
+  unfolding rule.further_arm
   arm-separates s ts mid more e = by-test {b = sees_second s m.Other ts} e
       (λ _ f. let z = same-end false more ts mid f in (λ yes. absurd (false≢true (z.0 ∙ yes)), λ _. z.1))
       (λ _ f. mark-separates s m.Always refl ts mid more f)
 
-  record Armed (s : Setting) (parts : List Node) (ts rest : Tokens) : Type 0 where
-    pub head : spell.Arm
-    pub tail : List spell.Arm
-    pub are : parts ≡ spell.arm_parts (head ∷ tail)
-    pub read : Read s.region s.has_at ts rest (spell.arms s.region s.has_at head tail)
-
-  arms : (s : Setting) (ts : Tokens) (parts : List Node) (rest : Tokens) → rule.arms left inner s ts ≡ Ok (parts, rest) → Armed s parts ts rest
-  arms s ts parts rest e =
-      let h = list-read s.region s.has_at with_arm (λ a. a) (spell.arm s.region s.has_at) (sign m.Always ∷ []) (further_arm s) (rule.arm left inner s) (arm s) (arm-separates s) [] ts parts rest e in
-      record { head = h.head; tail = h.tail; are = h.are ∙ puts-arms [] (h.head ∷ h.tail); read = h.read }
+  arms : (s : Setting) (ts : Tokens) (parts : List Node) (rest : Tokens) → rule.arms left inner s ts ≡ Ok (parts, rest)
+      → ListRead s.region s.has_at spell.arm_parts (spell.arm s.region s.has_at) (sign m.Always ∷ []) parts ts rest
+  arms s = list-read s.region s.has_at with_arm (λ a. a) (spell.arm s.region s.has_at) (sign m.Always ∷ []) (further_arm s) (rule.arm left inner s) (arm s) (arm-separates s) [] spell.arm_parts (puts-arms [])
 
   cases : (s : Setting) (ts rest : Tokens) (n : Node) → Stands s.region m.Case ts → rule.cases left inner s ts ≡ Ok (n, rest) → Derives s.region s.has_at ts rest n
   unfolding rule.cases rule.case_end rule.other_arm
@@ -520,17 +478,10 @@ module _ (left : ℕ) (inner : ChainReader) (law : OneRightTree) (good : Good in
         read = on-declared s stop.Other e1 (behind-sign (spell.parameters ds) (sign m.Defines) (head s t1 ds t2 e2) (on-same s e3 (up-to z.1 nothing)));
       })))
 
-  record Defined (s : Setting) (ds : List Def) (ts rest : Tokens) : Type 0 where
-    pub head : spell.Definition
-    pub tail : List spell.Definition
-    pub are : ds ≡ map spell.def_of (head ∷ tail)
-    pub read : Read s.region s.has_at ts rest (spell.definitions s.region s.has_at head tail)
-
-  definitions : (s : Setting) (ts : Tokens) (ds : List Def) (rest : Tokens) → rule.definitions left inner s ts ≡ Ok (ds, rest) → Defined s ds ts rest
-  definitions s ts ds rest e =
-      let h = list-read s.region s.has_at put_last spell.def_of (spell.definition s.region s.has_at) [] (ask (sees s m.Name)) (rule.definition left inner s) (definition s)
-      (ask-separates s.region s.has_at (sees s m.Name)) [] ts ds rest e in
-      record { head = h.head; tail = h.tail; are = h.are ∙ puts-last spell.def_of [] (h.head ∷ h.tail); read = h.read }
+  definitions : (s : Setting) (ts : Tokens) (ds : List Def) (rest : Tokens) → rule.definitions left inner s ts ≡ Ok (ds, rest)
+      → ListRead s.region s.has_at (map spell.def_of) (spell.definition s.region s.has_at) [] ds ts rest
+  definitions s = list-read s.region s.has_at put_last spell.def_of (spell.definition s.region s.has_at) [] (ask (sees s m.Name)) (rule.definition left inner s)
+      (definition s) (ask-separates s.region s.has_at (sees s m.Name)) [] (map spell.def_of) (puts-last spell.def_of [])
 
   local : (s : Setting) (ts rest : Tokens) (n : Node) → Stands s.region m.Let ts → rule.local left inner s ts ≡ Ok (n, rest) → Derives s.region s.has_at ts rest n
   unfolding rule.local

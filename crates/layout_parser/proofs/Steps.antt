@@ -1,7 +1,7 @@
 -- What a reader has used, step by step.
 use Rattle.std.specs.Prelude.{◌≢◌}
 use Rattle.std.proofs.Common.{length, ◌≡◌, ℕ, zero, suc, ◌≤◌, Bool, true, false, if◌then◌else◌, nat_lt, Result, List, [], ◌∷◌, ◌++◌, Option, Some, None, Ok, Err, refl, sym, subst, ap, ◌∙◌, append_assoc, append-nil, map, arith}
-use Rattle.std.proofs.lemmas.Bool.{true≢false, and_parts}
+use Rattle.std.proofs.lemmas.Bool.{and_parts}
 use Rattle.std.proofs.lemmas.Option.{none-some}
 use Rattle.tla_ast.specs.declared.place.Place.{Place}
 use Rattle.tla_ast.specs.declared.token.Token.{Token}
@@ -142,7 +142,7 @@ no-spelling tok.Eof Infix row e = absurd (none-some _ e)
 no-spelling tok.Eof Postfix row e = absurd (none-some _ e)
 no-spelling _ fix row e = refl
 
-operator-last : (t : Token) (fix : Fix) (r : Option (ℕ × ℕ × Bool)) (o : Operator) → operator (spelling t.tok) fix ≡ r → operator_at t r ≡ Some o → is_last t.tok ≡ false
+pub operator-last : (t : Token) (fix : Fix) (r : Option (ℕ × ℕ × Bool)) (o : Operator) → operator (spelling t.tok) fix ≡ r → operator_at t r ≡ Some o → is_last t.tok ≡ false
 operator-last t fix (Some row) o is e = no-spelling t.tok fix row is
 operator-last t fix None o is e = absurd (none-some _ e)
 
@@ -174,11 +174,11 @@ pub record ItemRead {A Y : Type 0} (region : ℕ) (has_at : Bool) (form : Y → 
   pub is : a ≡ form item
   pub read : Read region has_at ts rest (symbols item)
 
--- a list has been read: what was found is its items, one after another
-pub record ListRead {A B Y : Type 0} (region : ℕ) (has_at : Bool) (put : B → A → B) (form : Y → A) (symbols : Y → Symbols) (sep : Symbols) (found b : B) (ts rest : Tokens) : Type 0 where
+-- a list has been read: what is read is this whole of its items
+pub record ListRead {B Y : Type 0} (region : ℕ) (has_at : Bool) (whole : List Y → B) (symbols : Y → Symbols) (sep : Symbols) (b : B) (ts rest : Tokens) : Type 0 where
   pub head : Y
   pub tail : List Y
-  pub are : b ≡ puts put form found (head ∷ tail)
+  pub are : b ≡ whole (head ∷ tail)
   pub read : Read region has_at ts rest (spell.between sep (symbols head) (map symbols tail))
 
 -- the test after an item reads these symbols where a further one comes, and nothing where none does
@@ -197,11 +197,13 @@ ask-separates region has_at test ts mid more e = let z = same-end (test ts) more
 -- the one induction on lists
 pub list-read : {A B Y : Type 0} (region : ℕ) (has_at : Bool) (put : B → A → B) (form : Y → A) (symbols : Y → Symbols) (sep : Symbols) (goes_on : Reader Bool) (item : Reader A)
     → ((ts mid : Tokens) (a : A) → item ts ≡ Ok (a, mid) → ItemRead region has_at form symbols a ts mid) → Separates region has_at sep goes_on
-    → (found : B) (ts : Tokens) (b : B) (rest : Tokens) → gathered goes_on item put found ts ≡ Ok (b, rest) → ListRead region has_at put form symbols sep found b ts rest
+    → (found : B) (whole : List Y → B) → ((ys : List Y) → puts put form found ys ≡ whole ys)
+    → (ts : Tokens) (b : B) (rest : Tokens) → gathered goes_on item put found ts ≡ Ok (b, rest) → ListRead region has_at whole symbols sep b ts rest
 unfolding gathered gathered_from
-list-read {A} {B} region has_at put form symbols sep goes_on item reads separates found ts b rest e = turns (length ts) found ts e
+list-read {A} {B} region has_at put form symbols sep goes_on item reads separates found whole is ts b rest e =
+    let h = turns (length ts) found ts e in record { head = h.head; tail = h.tail; are = h.are ∙ is (h.head ∷ h.tail); read = h.read }
   where
-    turns : (n : ℕ) (found : B) (ts : Tokens) → gathered_from n goes_on item put found ts ≡ Ok (b, rest) → ListRead region has_at put form symbols sep found b ts rest
+    turns : (n : ℕ) (found : B) (ts : Tokens) → gathered_from n goes_on item put found ts ≡ Ok (b, rest) → ListRead region has_at (puts put form found) symbols sep b ts rest
     turns zero found ts e = refused e
     turns (suc n) found ts e = got {o = item ts} e (λ a t1 e1 f1. got {o = goes_on t1} f1 (λ more t2 e2 f2. let one = reads ts t1 a e1 in let next-is = separates t1 t2 more e2 in by-reader {b = more} (gathered_from n goes_on item put (put found a)) _ f2
         (λ yes f3. let h = turns n (put found a) t2 f3 in
@@ -299,9 +301,6 @@ pub subscribed-as : {region : ℕ} {has_at : Bool} {ts mid rest : Tokens} {a b n
     → Read region has_at ts mid parts → Subscribes region has_at ts rest n
 subscribed-as {region = region} {has_at = has_at} {parts = parts} e same made r = subscribed e (subst (λ x. Subscript region has_at x parts) (sym same) made) r
 
-pub on-subscript : {region : ℕ} {has_at : Bool} {ts mid rest : Tokens} {n : Node} {ys : Symbols} → (h : Subscribes region has_at ts mid n) → Read region has_at mid rest ys → Read region has_at ts rest (h.parts ++ ys)
-on-subscript h r = both h.read r
-
 pub on-operand : {region : ℕ} {has_at : Bool} {ts mid rest : Tokens} {n : Node} {parts ys : Symbols} → Operand region has_at n parts → Read region has_at ts mid parts → Read region has_at mid rest ys
     → Read region has_at ts rest (operand n ∷ ys)
 on-operand {region} {has_at} {rest = rest} {parts = parts} made p q = record {
@@ -317,9 +316,6 @@ at-any-place r = record { used = r.used; is = r.is; spelled = forget r.spelled }
     forget : {region : ℕ} {has_at : Bool} {used rest : Tokens} {k : Mark} {place : Place} {ys : Symbols} → Spelled region has_at (sign_at k place ∷ ys) used rest → Spelled region has_at (sign k ∷ ys) used rest
     forget (token t may fits g) = token t may fits.0 g
 
-pub none-after : (s : Setting) (k : Mark) {ts mid : Tokens} {has_at : Bool} {ys : Symbols} → sees s k mid ≡ false → Read s.region has_at ts mid ys → Read s.region has_at ts (after s k mid) ys
-none-after s k {ts = ts} {mid = mid} {has_at = has_at} {ys = ys} unseen r = up-to (sym (after-no s k mid unseen)) r
-
 pub up-from : {region : ℕ} {has_at : Bool} {ts mid rest : Tokens} {ys : Symbols} → ts ≡ mid → Read region has_at mid rest ys → Read region has_at ts rest ys
 up-from {region} {has_at} {rest = rest} {ys = ys} e h = subst (λ l. Read region has_at l rest ys) (sym e) h
 
@@ -327,7 +323,3 @@ up-from {region} {has_at} {rest = rest} {ys = ys} e h = subst (λ l. Read region
 pub behind-sign : {region : ℕ} {has_at : Bool} {ts mid rest : Tokens} {zs : Symbols} (ys : Symbols) (y : Symbol) → Read region has_at ts mid (ys ++ y ∷ []) → Read region has_at mid rest zs
     → Read region has_at ts rest (ys ++ y ∷ zs)
 behind-sign {region} {has_at} {ts} {mid} {rest} {zs} ys y h r = subst (λ l. Read region has_at ts rest l) (append_assoc ys (y ∷ []) zs) (both h r)
-
--- more symbols in front of those before a sign
-pub in-front : {region : ℕ} {has_at : Bool} {ts mid rest : Tokens} (y : Symbol) (xs ys : Symbols) → Read region has_at ts mid xs → Read region has_at mid rest (ys ++ y ∷ []) → Read region has_at ts rest ((xs ++ ys) ++ y ∷ [])
-in-front {region} {has_at} {ts} {mid} {rest} y xs ys h r = subst (λ l. Read region has_at ts rest l) (sym (append_assoc xs ys (y ∷ []))) (both h r)

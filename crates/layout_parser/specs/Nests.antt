@@ -16,6 +16,10 @@ abbrev pub ended : Option Fault → Tokens → Result Tokens Fault
 ended None ts = Ok ts
 ended (Some e) ts = Err e
 
+-- the chain that was read, before these tokens
+abbrev pub chain_of : Flat → Tokens → Chain
+chain_of f rest = (f.pieces.items, ended f.fault rest)
+
 -- the pieces and the end are those of the chain
 abbrev pub Flats : Chain → Result Flat Memory → Tokens → Type 0
 Flats c (Ok f) new = (f.pieces.items ≡ c.0) × (c.1 ≡ ended f.fault new)

@@ -1,5 +1,5 @@
 -- Readings of expressions.
-use Rattle.std.specs.Prelude.{◌≡◌, ◌≢◌, ℕ, zero, suc, ◌-◌, Bool, true, false, not, ◌&&◌, ◌||◌, if◌then◌else◌, nat_eq, List, [], ◌∷◌, ◌++◌, length, drop, Option, Some, None, Result, Ok, Err, codes}
+use Rattle.std.specs.Prelude.{ℕ, zero, suc, ◌-◌, Bool, true, false, not, ◌&&◌, ◌||◌, if◌then◌else◌, nat_eq, List, [], ◌∷◌, ◌++◌, length, drop, Option, Some, None, Result, Ok, Err, codes}
 use Rattle.tla_ast.specs.declared.place.Place.{Place}
 use Rattle.tla_ast.specs.declared.token.Token.{Token}
 use Rattle.tla_ast.specs.declared.fault.Kind.TheVariants.{Precedence}
@@ -195,7 +195,7 @@ unfoldable pub literal : Reader Node
 literal = λ ts. Ok (node (literal_form (first ts).tok) [] (here ts), next ts)
 
 -- a further arm comes: a `[]` that is not that of OTHER, which is read
-abbrev pub further_arm : Setting → Reader Bool
+unfoldable pub further_arm : Setting → Reader Bool
 further_arm s = λ ts. if sees_second s m.Other ts then Ok (false, ts) else eat s m.Always ts
 
 -- the same sign comes next in the column of the bullets
@@ -698,13 +698,17 @@ unfoldable pub nested : ℕ → ChainReader
 nested zero n s waits ts = ([], Err (too_deep s ts))
 nested (suc left) n s waits ts = chain_from left (nested left) n s waits ts
 
+-- a rule, where so many nestings may still begin
+abbrev pub rule : {A : Type 0} → ℕ → (ℕ → ChainReader → A) → A
+rule left of = of left (nested left)
+
 -- how many nestings may still begin where so many stand round
 abbrev pub nestings_left : ℕ → ℕ
 nestings_left depth = suc (MOST_NESTINGS - depth)
 
--- an expression with so many nestings round it
+-- an expression where so many nestings may begin, itself among them
 abbrev pub expression : ℕ → Setting → Reader Node
-expression depth s = λ ts. finished (nested (nestings_left depth) (length ts) s true ts)
+expression left = rule left part
 
 -- what is round an expression that stands in no bracket
 abbrev pub outermost : ℕ → Setting
@@ -717,4 +721,4 @@ located ts (Err e) = Err e
 
 -- the reading of an expression that begins at a place of a list of tokens, in a region, with so many nestings round it
 unfoldable pub reading : List Token → ℕ → ℕ → ℕ → Result (Node × ℕ) Fault
-reading ts from region depth = located ts (expression depth (outermost region) (drop from ts))
+reading ts from region depth = located ts (expression (nestings_left depth) (outermost region) (drop from ts))

@@ -4,9 +4,10 @@ ghost use Rattle.std.specs.Prelude.{◌≡◌};
 ghost use Rattle.token_reader.specs.Input as input;
 ghost use Rattle.tla_ast.specs.Answers.{Reads};
 ghost use Rattle.layout_parser.specs.Reading as spec;
+ghost use Rattle.layout_parser.specs.Reading.{rule};
 ghost use Rattle.layout_parser.specs.Nests.{Nests, Flats, ended};
 
-use crate::build::{both, group, one, one_part, whole};
+use crate::build::{group, one, one_part, whole};
 use crate::flat::Flat;
 use crate::grammar::Grammar;
 use core_expr::Memory;
@@ -27,7 +28,8 @@ impl<F: Fn(Global, &mut Cursor<'_>, usize, usize, Setting, bool) -> Result<Flat,
         names: Items<Decl>,
     ) -> Result<Group, Fault>
         requires { Nests self.now.left (F.pre self.now.read) (F.post self.now.read) }
-        ensures { Reads (spec.bound_set self.now.left (spec.nested self.now.left) setting names cursor.old) result cursor.new }
+        ensures { Reads (rule self.now.left spec.bound_set setting names cursor.old)
+            result cursor.new }
     {
         cursor.expect(self.alloc, setting, Stop::Other, Mark::Belongs)?;
         let set = self.part(cursor, setting)?;
@@ -38,7 +40,7 @@ impl<F: Fn(Global, &mut Cursor<'_>, usize, usize, Setting, bool) -> Result<Flat,
     #[tactic(auto, unfolding(crate::specs::Reading::bound))]
     fn bound(&self, cursor: &mut Cursor<'_>, setting: Setting) -> Result<Group, Fault>
         requires { Nests self.now.left (F.pre self.now.read) (F.post self.now.read) }
-        ensures { Reads (spec.bound self.now.left (spec.nested self.now.left) setting cursor.old) result cursor.new }
+        ensures { Reads (rule self.now.left spec.bound setting cursor.old) result cursor.new }
     {
         let names = names(self.alloc, cursor, setting, Stop::Bound)?;
         self.bound_set(cursor, setting, names)
@@ -53,7 +55,8 @@ impl<F: Fn(Global, &mut Cursor<'_>, usize, usize, Setting, bool) -> Result<Flat,
         mut found: Items<Group>,
     ) -> Result<Items<Group>, Fault>
         requires { Nests self.now.left (F.pre self.now.read) (F.post self.now.read) }
-        ensures { Reads (spec.further_bounds self.now.left (spec.nested self.now.left) setting found cursor.old) result cursor.new }
+        ensures { Reads (rule self.now.left spec.further_bounds setting found cursor.old)
+            result cursor.new }
     {
         for _turn in 0..cursor.left() {
             found.push(self.bound(cursor, setting)?)?;
@@ -73,7 +76,8 @@ impl<F: Fn(Global, &mut Cursor<'_>, usize, usize, Setting, bool) -> Result<Flat,
         names: Items<Decl>,
     ) -> Result<Items<Group>, Fault>
         requires { Nests self.now.left (F.pre self.now.read) (F.post self.now.read) }
-        ensures { Reads (spec.bounds self.now.left (spec.nested self.now.left) setting names cursor.old) result cursor.new }
+        ensures { Reads (rule self.now.left spec.bounds setting names cursor.old)
+            result cursor.new }
     {
         let group = self.bound_set(cursor, setting, names)?;
         let found = one(self.alloc, group)?;
@@ -93,7 +97,8 @@ impl<F: Fn(Global, &mut Cursor<'_>, usize, usize, Setting, bool) -> Result<Flat,
         names: Items<Decl>,
     ) -> Result<Items<Group>, Fault>
         requires { Nests self.now.left (F.pre self.now.read) (F.post self.now.read) }
-        ensures { Reads (spec.groups_of self.now.left (spec.nested self.now.left) setting names cursor.old) result cursor.new }
+        ensures { Reads (rule self.now.left spec.groups_of setting names cursor.old)
+            result cursor.new }
     {
         if !cursor.sees(setting, Mark::Colon) {
             return self.bounds(cursor, setting, names);
@@ -111,7 +116,8 @@ impl<F: Fn(Global, &mut Cursor<'_>, usize, usize, Setting, bool) -> Result<Flat,
         setting: Setting,
     ) -> Result<Node, Fault>
         requires { Nests self.now.left (F.pre self.now.read) (F.post self.now.read) }
-        ensures { Reads (spec.quantifier self.now.left (spec.nested self.now.left) all setting cursor.old) result cursor.new }
+        ensures { Reads (rule self.now.left spec.quantifier all setting cursor.old)
+            result cursor.new }
     {
         let place = cursor.take();
         let names = names(self.alloc, cursor, setting, Stop::Bound)?;
@@ -126,7 +132,7 @@ impl<F: Fn(Global, &mut Cursor<'_>, usize, usize, Setting, bool) -> Result<Flat,
     #[tactic(auto, unfolding(crate::specs::Reading::domain))]
     fn domain(&self, cursor: &mut Cursor<'_>, setting: Setting) -> Result<Option<Node>, Fault>
         requires { Nests self.now.left (F.pre self.now.read) (F.post self.now.read) }
-        ensures { Reads (spec.domain self.now.left (spec.nested self.now.left) setting cursor.old) result cursor.new }
+        ensures { Reads (rule self.now.left spec.domain setting cursor.old) result cursor.new }
     {
         if !cursor.eat(setting, Mark::Belongs) {
             cursor.expect(self.alloc, setting, Stop::Other, Mark::Colon)?;
@@ -141,7 +147,7 @@ impl<F: Fn(Global, &mut Cursor<'_>, usize, usize, Setting, bool) -> Result<Flat,
     #[tactic(auto, unfolding(crate::specs::Reading::choose))]
     pub fn choose(&self, cursor: &mut Cursor<'_>, setting: Setting) -> Result<Node, Fault>
         requires { Nests self.now.left (F.pre self.now.read) (F.post self.now.read) }
-        ensures { Reads (spec.choose self.now.left (spec.nested self.now.left) setting cursor.old) result cursor.new }
+        ensures { Reads (rule self.now.left spec.choose setting cursor.old) result cursor.new }
     {
         let place = cursor.take();
         let bound = cursor.declared(self.alloc, setting, Stop::Bound)?;

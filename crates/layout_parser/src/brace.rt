@@ -7,7 +7,8 @@ ghost use Rattle.operator_chain.specs.Listed.{AreListed};
 ghost use Rattle.tla_ast.specs.Answers.{Reads};
 ghost use Rattle.token_reader.specs.Input.{and_then};
 ghost use Rattle.layout_parser.specs.Reading as spec;
-ghost use Rattle.layout_parser.specs.Nests.{Nests, Flats, ended};
+ghost use Rattle.layout_parser.specs.Reading.{rule};
+ghost use Rattle.layout_parser.specs.Nests.{Nests, Flats, chain_of};
 
 use crate::build::{binary, leaf, one_part, unary, whole};
 use crate::flat::Flat;
@@ -19,12 +20,14 @@ use std::alloc::Global;
 use tla_ast::{Fault, Form, Node, Place};
 use token_reader::{Around, Cursor, Mark, Setting, Stop};
 
+/// Whether a tuple and `\in` stand right after the `{`.
 fn is_tuple(around: Around) -> bool
     ensures { result ≡ input.is_tuple around }
 {
     around == Around::Tuple
 }
 
+/// Whether the form is that of a tuple.
 fn is_tuple_form(form: &Form) -> bool
     ensures { result ≡ spec.is_tuple_form form.now }
 {
@@ -52,7 +55,7 @@ impl<F: Fn(Global, &mut Cursor<'_>, usize, usize, Setting, bool) -> Result<Flat,
     #[tactic(auto, unfolding(crate::specs::Reading::image))]
     fn image(&self, cursor: &mut Cursor<'_>, setting: Setting, value: Node) -> Result<Node, Fault>
         requires { Nests self.now.left (F.pre self.now.read) (F.post self.now.read) }
-        ensures { Reads (spec.image self.now.left (spec.nested self.now.left) setting value cursor.old) result cursor.new }
+        ensures { Reads (rule self.now.left spec.image setting value cursor.old) result cursor.new }
     {
         let inside = setting.within(Around::Colon);
         let bound = cursor.declared(self.alloc, inside, Stop::Bound)?;
@@ -73,7 +76,8 @@ impl<F: Fn(Global, &mut Cursor<'_>, usize, usize, Setting, bool) -> Result<Flat,
         set: Node,
     ) -> Result<Node, Fault>
         requires { Nests self.now.left (F.pre self.now.read) (F.post self.now.read) }
-        ensures { Reads (spec.filter self.now.left (spec.nested self.now.left) setting name place set cursor.old) result cursor.new }
+        ensures { Reads (rule self.now.left spec.filter setting name place set cursor.old)
+            result cursor.new }
     {
         let inside = setting.within(Around::Colon);
         cursor.expect(self.alloc, setting, Stop::Expression, Mark::Colon)?;
@@ -92,7 +96,8 @@ impl<F: Fn(Global, &mut Cursor<'_>, usize, usize, Setting, bool) -> Result<Flat,
         element: Node,
     ) -> Result<Node, Fault>
         requires { Nests self.now.left (F.pre self.now.read) (F.post self.now.read) }
-        ensures { Reads (spec.elements self.now.left (spec.nested self.now.left) setting place element cursor.old) result cursor.new }
+        ensures { Reads (rule self.now.left spec.elements setting place element cursor.old)
+            result cursor.new }
     {
         let first = one_part(self.alloc, element)?;
         let parts = self.expressions(cursor, setting, first)?;
@@ -110,7 +115,8 @@ impl<F: Fn(Global, &mut Cursor<'_>, usize, usize, Setting, bool) -> Result<Flat,
         element: Node,
     ) -> Result<Node, Fault>
         requires { Nests self.now.left (F.pre self.now.read) (F.post self.now.read) }
-        ensures { Reads (spec.brace_end self.now.left (spec.nested self.now.left) setting place element cursor.old) result cursor.new }
+        ensures { Reads (rule self.now.left spec.brace_end setting place element cursor.old)
+            result cursor.new }
     {
         if cursor.sees(setting, Mark::Colon) && !is_tuple(setting.around) {
             cursor.advance();
@@ -136,7 +142,9 @@ impl<F: Fn(Global, &mut Cursor<'_>, usize, usize, Setting, bool) -> Result<Flat,
     ) -> Result<Node, Fault>
         requires nests { Nests self.now.left (F.pre self.now.read) (F.post self.now.read) }
         requires set { IsChain true set.pieces.items × AreListed set.pieces.items }
-        ensures { Reads (and_then (spec.finished (spec.after_member bound.name bound.place bound.sign (set.pieces.items, ended set.fault cursor.old))) (spec.brace_end self.now.left (spec.nested self.now.left) setting place)) result cursor.new }
+        ensures { Reads (and_then
+            (spec.finished (spec.after_member bound.name bound.place bound.sign (chain_of set cursor.old)))
+            (rule self.now.left spec.brace_end setting place)) result cursor.new }
     {
         let element = element(self.alloc, bound, set)?;
         self.brace_end(cursor, setting, place, element)
@@ -151,7 +159,8 @@ impl<F: Fn(Global, &mut Cursor<'_>, usize, usize, Setting, bool) -> Result<Flat,
         place: Place,
     ) -> Result<Node, Fault>
         requires { Nests self.now.left (F.pre self.now.read) (F.post self.now.read) }
-        ensures { Reads (spec.member_brace self.now.left (spec.nested self.now.left) setting place cursor.old) result cursor.new }
+        ensures { Reads (rule self.now.left spec.member_brace setting place cursor.old)
+            result cursor.new }
     {
         let bound = Bound::read(self.alloc, cursor)?;
         let most = cursor.left();
@@ -173,7 +182,8 @@ impl<F: Fn(Global, &mut Cursor<'_>, usize, usize, Setting, bool) -> Result<Flat,
         operand: Node,
     ) -> Result<Node, Fault>
         requires { Nests self.now.left (F.pre self.now.read) (F.post self.now.read) }
-        ensures { Reads (spec.tuple_brace_after self.now.left (spec.nested self.now.left) setting place operand cursor.old) result cursor.new }
+        ensures { Reads (rule self.now.left spec.tuple_brace_after setting place operand cursor.old)
+            result cursor.new }
     {
         let setting = after_first(cursor, setting, &operand);
         let most = cursor.left();
@@ -192,7 +202,8 @@ impl<F: Fn(Global, &mut Cursor<'_>, usize, usize, Setting, bool) -> Result<Flat,
         place: Place,
     ) -> Result<Node, Fault>
         requires { Nests self.now.left (F.pre self.now.read) (F.post self.now.read) }
-        ensures { Reads (spec.tuple_brace self.now.left (spec.nested self.now.left) setting place cursor.old) result cursor.new }
+        ensures { Reads (rule self.now.left spec.tuple_brace setting place cursor.old)
+            result cursor.new }
     {
         let Flat { mut pieces, fault } = self.inner(cursor, 1, setting, true)?;
         if let Some(fault) = fault {
@@ -215,7 +226,8 @@ impl<F: Fn(Global, &mut Cursor<'_>, usize, usize, Setting, bool) -> Result<Flat,
         place: Place,
     ) -> Result<Node, Fault>
         requires { Nests self.now.left (F.pre self.now.read) (F.post self.now.read) }
-        ensures { Reads (spec.brace_from self.now.left (spec.nested self.now.left) setting place cursor.old) result cursor.new }
+        ensures { Reads (rule self.now.left spec.brace_from setting place cursor.old)
+            result cursor.new }
     {
         if cursor.eat(setting, Mark::CloseBrace) {
             return Ok(leaf(self.alloc, Form::Enum, place));
@@ -234,7 +246,7 @@ impl<F: Fn(Global, &mut Cursor<'_>, usize, usize, Setting, bool) -> Result<Flat,
     #[tactic(auto, unfolding(crate::specs::Reading::brace))]
     pub fn brace(&self, cursor: &mut Cursor<'_>, setting: Setting) -> Result<Node, Fault>
         requires { Nests self.now.left (F.pre self.now.read) (F.post self.now.read) }
-        ensures { Reads (spec.brace self.now.left (spec.nested self.now.left) setting cursor.old) result cursor.new }
+        ensures { Reads (rule self.now.left spec.brace setting cursor.old) result cursor.new }
     {
         let place = cursor.opening(self.left)?;
         self.brace_from(cursor, setting.within(Around::Brace), place)

@@ -4,6 +4,7 @@ ghost use Rattle.std.specs.Prelude.{◌≡◌};
 ghost use Rattle.token_reader.specs.Input as input;
 ghost use Rattle.tla_ast.specs.Answers.{Reads};
 ghost use Rattle.layout_parser.specs.Reading as spec;
+ghost use Rattle.layout_parser.specs.Reading.{rule};
 ghost use Rattle.layout_parser.specs.Nests.{Nests, Flats, ended};
 
 use crate::build::{binary, both, leaf, whole};
@@ -26,7 +27,8 @@ impl<F: Fn(Global, &mut Cursor<'_>, usize, usize, Setting, bool) -> Result<Flat,
         mut found: Parts<Node>,
     ) -> Result<Parts<Node>, Fault>
         requires { Nests self.now.left (F.pre self.now.read) (F.post self.now.read) }
-        ensures { Reads (spec.expressions self.now.left (spec.nested self.now.left) setting found cursor.old) result cursor.new }
+        ensures { Reads (rule self.now.left spec.expressions setting found cursor.old)
+            result cursor.new }
     {
         for _turn in 0..cursor.left() {
             found.push(self.part(cursor, setting)?)?;
@@ -41,7 +43,7 @@ impl<F: Fn(Global, &mut Cursor<'_>, usize, usize, Setting, bool) -> Result<Flat,
     #[tactic(auto, unfolding(crate::specs::Reading::arguments))]
     fn arguments(&self, cursor: &mut Cursor<'_>, setting: Setting) -> Result<Parts<Node>, Fault>
         requires { Nests self.now.left (F.pre self.now.read) (F.post self.now.read) }
-        ensures { Reads (spec.arguments self.now.left (spec.nested self.now.left) setting cursor.old) result cursor.new }
+        ensures { Reads (rule self.now.left spec.arguments setting cursor.old) result cursor.new }
     {
         let inside = setting.within(Around::Other);
         cursor.opening(self.left)?;
@@ -54,7 +56,7 @@ impl<F: Fn(Global, &mut Cursor<'_>, usize, usize, Setting, bool) -> Result<Flat,
     #[tactic(auto, unfolding(crate::specs::Reading::named))]
     pub fn named(&self, cursor: &mut Cursor<'_>, setting: Setting) -> Result<Node, Fault>
         requires { Nests self.now.left (F.pre self.now.read) (F.post self.now.read) }
-        ensures { Reads (spec.named self.now.left (spec.nested self.now.left) setting cursor.old) result cursor.new }
+        ensures { Reads (rule self.now.left spec.named setting cursor.old) result cursor.new }
     {
         let name = Text::of(self.alloc, cursor.spelling())?;
         let place = cursor.take();
@@ -69,7 +71,8 @@ impl<F: Fn(Global, &mut Cursor<'_>, usize, usize, Setting, bool) -> Result<Flat,
     #[tactic(auto, unfolding(crate::specs::Reading::parenthesized))]
     pub fn parenthesized(&self, cursor: &mut Cursor<'_>, setting: Setting) -> Result<Node, Fault>
         requires { Nests self.now.left (F.pre self.now.read) (F.post self.now.read) }
-        ensures { Reads (spec.parenthesized self.now.left (spec.nested self.now.left) setting cursor.old) result cursor.new }
+        ensures { Reads (rule self.now.left spec.parenthesized setting cursor.old)
+            result cursor.new }
     {
         let inside = setting.within(Around::Other);
         cursor.opening(self.left)?;
@@ -82,7 +85,7 @@ impl<F: Fn(Global, &mut Cursor<'_>, usize, usize, Setting, bool) -> Result<Flat,
     #[tactic(auto, unfolding(crate::specs::Reading::tuple))]
     fn tuple(&self, cursor: &mut Cursor<'_>, setting: Setting) -> Result<Node, Fault>
         requires { Nests self.now.left (F.pre self.now.read) (F.post self.now.read) }
-        ensures { Reads (spec.tuple self.now.left (spec.nested self.now.left) setting cursor.old) result cursor.new }
+        ensures { Reads (rule self.now.left spec.tuple setting cursor.old) result cursor.new }
     {
         let inside = setting.within(Around::Other);
         let place = cursor.opening(self.left)?;
@@ -98,7 +101,7 @@ impl<F: Fn(Global, &mut Cursor<'_>, usize, usize, Setting, bool) -> Result<Flat,
     #[tactic(auto, unfolding(crate::specs::Reading::subscript))]
     pub fn subscript(&self, cursor: &mut Cursor<'_>, setting: Setting) -> Result<Node, Fault>
         requires { Nests self.now.left (F.pre self.now.read) (F.post self.now.read) }
-        ensures { Reads (spec.subscript self.now.left (spec.nested self.now.left) setting cursor.old) result cursor.new }
+        ensures { Reads (rule self.now.left spec.subscript setting cursor.old) result cursor.new }
     {
         if cursor.sees(setting, Mark::Name) {
             let name = Text::of(self.alloc, cursor.spelling())?;
@@ -124,7 +127,8 @@ impl<F: Fn(Global, &mut Cursor<'_>, usize, usize, Setting, bool) -> Result<Flat,
         mut parts: Parts<Node>,
     ) -> Result<Node, Fault>
         requires { Nests self.now.left (F.pre self.now.read) (F.post self.now.read) }
-        ensures { Reads (spec.angle_end self.now.left (spec.nested self.now.left) setting place parts cursor.old) result cursor.new }
+        ensures { Reads (rule self.now.left spec.angle_end setting place parts cursor.old)
+            result cursor.new }
     {
         let inside = setting.within(Around::Other);
         if cursor.eat(setting, Mark::CloseAngle) {
@@ -142,7 +146,7 @@ impl<F: Fn(Global, &mut Cursor<'_>, usize, usize, Setting, bool) -> Result<Flat,
     #[tactic(auto, unfolding(crate::specs::Reading::angle))]
     pub fn angle(&self, cursor: &mut Cursor<'_>, setting: Setting) -> Result<Node, Fault>
         requires { Nests self.now.left (F.pre self.now.read) (F.post self.now.read) }
-        ensures { Reads (spec.angle self.now.left (spec.nested self.now.left) setting cursor.old) result cursor.new }
+        ensures { Reads (rule self.now.left spec.angle setting cursor.old) result cursor.new }
     {
         let inside = setting.within(Around::Other);
         let place = cursor.opening(self.left)?;
@@ -162,7 +166,7 @@ impl<F: Fn(Global, &mut Cursor<'_>, usize, usize, Setting, bool) -> Result<Flat,
         setting: Setting,
     ) -> Result<Node, Fault>
         requires { Nests self.now.left (F.pre self.now.read) (F.post self.now.read) }
-        ensures { Reads (spec.fair self.now.left (spec.nested self.now.left) strong setting cursor.old) result cursor.new }
+        ensures { Reads (rule self.now.left spec.fair strong setting cursor.old) result cursor.new }
     {
         let place = cursor.take();
         let subscript = self.subscript(cursor, setting)?;

@@ -7,12 +7,14 @@ use sqlite_items::{Boxed, Items};
 use std::alloc::{AllocError, Global};
 use tla_ast::{Decl, Form, Group, Node, Parts, Place};
 
+/// Whether both hold.
 pub fn both(a: bool, b: bool) -> bool
     ensures { result ≡ (a && b) }
 {
     a && b
 }
 
+/// Whether one holds at least.
 pub fn either(a: bool, b: bool) -> bool
     ensures { result ≡ (a || b) }
 {

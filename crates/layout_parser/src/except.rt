@@ -4,6 +4,7 @@ ghost use Rattle.std.specs.Prelude.{◌≡◌, Ok, IfOk, OnOk};
 ghost use Rattle.token_reader.specs.Input as input;
 ghost use Rattle.tla_ast.specs.Answers.{Reads};
 ghost use Rattle.layout_parser.specs.Reading as spec;
+ghost use Rattle.layout_parser.specs.Reading.{rule};
 ghost use Rattle.layout_parser.specs.Nests.{Nests, Flats, ended};
 
 use crate::build::{either, one_part, whole};
@@ -25,6 +26,7 @@ pub struct Updates {
 }
 
 impl Updates {
+    /// The function, before any update.
     fn new(alloc: Global, function: Node) -> Result<Updates, AllocError>
         ensures { IfOk result (λ u. u ≡ spec.no_updates function) }
     {
@@ -35,6 +37,7 @@ impl Updates {
         })
     }
 
+    /// One update more.
     fn push(&mut self, path: Path, value: Node) -> Result<(), AllocError>
         ensures { OnOk result (self.new ≡ spec.with_update self.old (path, value)) }
     {
@@ -92,7 +95,7 @@ impl<F: Fn(Global, &mut Cursor<'_>, usize, usize, Setting, bool) -> Result<Flat,
     #[tactic(auto, unfolding(crate::specs::Reading::key_of))]
     fn key(&self, cursor: &mut Cursor<'_>, setting: Setting) -> Result<Key, Fault>
         requires { Nests self.now.left (F.pre self.now.read) (F.post self.now.read) }
-        ensures { Reads (spec.key_of self.now.left (spec.nested self.now.left) setting cursor.old) result cursor.new }
+        ensures { Reads (rule self.now.left spec.key_of setting cursor.old) result cursor.new }
     {
         if !begins_key(cursor, setting) {
             return Err(cursor.refusal(self.alloc, setting, Stop::Other));
@@ -108,7 +111,7 @@ impl<F: Fn(Global, &mut Cursor<'_>, usize, usize, Setting, bool) -> Result<Flat,
     #[tactic(auto, using(token_reader::proofs::Turns::turn), unfolding(token_reader::specs::Lists::gathered, token_reader::specs::Lists::gathered_from))]
     fn keys(&self, cursor: &mut Cursor<'_>, setting: Setting) -> Result<Items<Key>, Fault>
         requires { Nests self.now.left (F.pre self.now.read) (F.post self.now.read) }
-        ensures { Reads (spec.keys self.now.left (spec.nested self.now.left) setting cursor.old) result cursor.new }
+        ensures { Reads (rule self.now.left spec.keys setting cursor.old) result cursor.new }
     {
         let mut found = Items::new(self.alloc);
         for _turn in 0..cursor.left() {
@@ -124,7 +127,7 @@ impl<F: Fn(Global, &mut Cursor<'_>, usize, usize, Setting, bool) -> Result<Flat,
     #[tactic(auto, unfolding(crate::specs::Reading::update))]
     fn update(&self, cursor: &mut Cursor<'_>, setting: Setting) -> Result<(Path, Node), Fault>
         requires { Nests self.now.left (F.pre self.now.read) (F.post self.now.read) }
-        ensures { Reads (spec.update self.now.left (spec.nested self.now.left) setting cursor.old) result cursor.new }
+        ensures { Reads (rule self.now.left spec.update setting cursor.old) result cursor.new }
     {
         cursor.expect(self.alloc, setting, Stop::Other, Mark::Bang)?;
         let keys = self.keys(cursor, setting)?;
@@ -142,7 +145,8 @@ impl<F: Fn(Global, &mut Cursor<'_>, usize, usize, Setting, bool) -> Result<Flat,
         function: Node,
     ) -> Result<Updates, Fault>
         requires { Nests self.now.left (F.pre self.now.read) (F.post self.now.read) }
-        ensures { Reads (spec.updates self.now.left (spec.nested self.now.left) setting function cursor.old) result cursor.new }
+        ensures { Reads (rule self.now.left spec.updates setting function cursor.old)
+            result cursor.new }
     {
         let mut updates = Updates::new(self.alloc, function)?;
         for _turn in 0..cursor.left() {
@@ -165,7 +169,8 @@ impl<F: Fn(Global, &mut Cursor<'_>, usize, usize, Setting, bool) -> Result<Flat,
         function: Node,
     ) -> Result<Node, Fault>
         requires { Nests self.now.left (F.pre self.now.read) (F.post self.now.read) }
-        ensures { Reads (spec.except self.now.left (spec.nested self.now.left) setting place function cursor.old) result cursor.new }
+        ensures { Reads (rule self.now.left spec.except setting place function cursor.old)
+            result cursor.new }
     {
         let Updates { paths, parts } = self.updates(cursor, setting, function)?;
         cursor.expect(self.alloc, setting, Stop::Expression, Mark::CloseSquare)?;

@@ -8,7 +8,8 @@ ghost use Rattle.operator_chain.specs.Listed.{AreListed};
 ghost use Rattle.tla_ast.specs.Answers.{Reads};
 ghost use Rattle.token_reader.specs.Input.{Tokens};
 ghost use Rattle.layout_parser.specs.Reading as spec;
-ghost use Rattle.layout_parser.specs.Nests.{Nests, Flats, Steps, ended};
+ghost use Rattle.layout_parser.specs.Reading.{rule};
+ghost use Rattle.layout_parser.specs.Nests.{Nests, Flats, Steps, ended, chain_of};
 
 use crate::flat::{Flat, Step};
 use core_expr::Memory;
@@ -42,7 +43,7 @@ pub fn told(fault: Fault) -> Result<Fault, Memory>
 pub fn finished(alloc: Global, flat: Flat) -> Result<Node, Fault>
     requires chain { IsChain true flat.pieces.items }
     requires listed { AreListed flat.pieces.items }
-    ensures { (rest : Tokens) → Reads (spec.finished (flat.pieces.items, ended flat.fault rest)) result rest }
+    ensures { (rest : Tokens) → Reads (spec.finished (chain_of flat rest)) result rest }
 {
     let Flat { pieces, fault } = flat;
     let node = tree(alloc, pieces)?;
@@ -55,6 +56,7 @@ pub fn finished(alloc: Global, flat: Flat) -> Result<Node, Fault>
 impl<F: Fn(Global, &mut Cursor<'_>, usize, usize, Setting, bool) -> Result<Flat, Memory>> Grammar<
     F,
 > {
+    /// A chain in a further nesting, as the reader of those gives it.
     fn nested(
         &self,
         cursor: &mut Cursor<'_>,
@@ -63,7 +65,8 @@ impl<F: Fn(Global, &mut Cursor<'_>, usize, usize, Setting, bool) -> Result<Flat,
         waits: bool,
     ) -> Result<Flat, Memory>
         requires { Nests self.now.left (F.pre self.now.read) (F.post self.now.read) }
-        ensures { Flats (spec.nested self.now.left pieces setting waits cursor.old) result cursor.new }
+        ensures { Flats (spec.nested self.now.left pieces setting waits cursor.old)
+            result cursor.new }
     {
         (self.read)(self.alloc, cursor, self.left, pieces, setting, waits)
     }
@@ -77,7 +80,8 @@ impl<F: Fn(Global, &mut Cursor<'_>, usize, usize, Setting, bool) -> Result<Flat,
         waits: bool,
     ) -> Result<Flat, Memory>
         requires { Nests self.now.left (F.pre self.now.read) (F.post self.now.read) }
-        ensures flats { Flats (spec.nested self.now.left pieces setting waits cursor.old) result cursor.new }
+        ensures flats { Flats (spec.nested self.now.left pieces setting waits cursor.old)
+            result cursor.new }
         ensures chain { IfOk result (λ f. IsChain waits f.pieces.items) }
         ensures listed { IfOk result (λ f. AreListed f.pieces.items) }
     {
@@ -87,16 +91,17 @@ impl<F: Fn(Global, &mut Cursor<'_>, usize, usize, Setting, bool) -> Result<Flat,
     /// An expression in a further nesting.
     pub fn part(&self, cursor: &mut Cursor<'_>, setting: Setting) -> Result<Node, Fault>
         requires { Nests self.now.left (F.pre self.now.read) (F.post self.now.read) }
-        ensures { Reads (spec.part self.now.left (spec.nested self.now.left) setting cursor.old) result cursor.new }
+        ensures { Reads (rule self.now.left spec.part setting cursor.old) result cursor.new }
     {
         let most = cursor.left();
         let flat = self.inner(cursor, most, setting, true)?;
         finished(self.alloc, flat)
     }
 
+    /// The next step of a chain; the test says whether an operand must come.
     fn step(&self, cursor: &mut Cursor<'_>, setting: Setting, waits: bool) -> Result<Step, Memory>
         requires { Nests self.now.left (F.pre self.now.read) (F.post self.now.read) }
-        ensures { Steps (spec.step self.now.left (spec.nested self.now.left) setting waits cursor.old) result cursor.new }
+        ensures { Steps (rule self.now.left spec.step setting waits cursor.old) result cursor.new }
     {
         if waits {
             self.step_before(cursor, setting)
@@ -114,7 +119,8 @@ impl<F: Fn(Global, &mut Cursor<'_>, usize, usize, Setting, bool) -> Result<Flat,
         mut waits: bool,
     ) -> Result<Flat, Memory>
         requires { Nests self.now.left (F.pre self.now.read) (F.post self.now.read) }
-        ensures { Flats (spec.chain_from self.now.left (spec.nested self.now.left) most setting waits cursor.old) result cursor.new }
+        ensures { Flats (rule self.now.left spec.chain_from most setting waits cursor.old)
+            result cursor.new }
     {
         let mut pieces = VecDeque::new(self.alloc);
         for _turn in 0..most {
@@ -153,7 +159,8 @@ fn full(
 
 /// The chain that breaks off at a fault, behind a postfix operator that is not finished or without one.
 fn broken(mut pieces: VecDeque<Piece>, piece: Option<Piece>, fault: Fault) -> Result<Flat, Memory>
-    ensures { (rest : Tokens) → Flats (spec.behind pieces.items (spec.left_over piece, Err fault)) result rest }
+    ensures { (rest : Tokens)
+        → Flats (spec.behind pieces.items (spec.left_over piece, Err fault)) result rest }
 {
     if let Some(piece) = piece {
         pieces.push_back(piece)?;

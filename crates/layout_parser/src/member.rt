@@ -8,7 +8,7 @@ ghost use Rattle.tla_ast.specs.Answers.{Reads};
 ghost use Rattle.token_reader.specs.Input.{Tokens};
 ghost use Rattle.token_reader.specs.Marks.{spelling};
 ghost use Rattle.layout_parser.specs.Reading as spec;
-ghost use Rattle.layout_parser.specs.Nests.{Nests, Flats, ended};
+ghost use Rattle.layout_parser.specs.Nests.{Nests, Flats, chain_of};
 
 use crate::build::leaf;
 use crate::flat::Flat;
@@ -69,7 +69,9 @@ impl Bound {
 pub fn element(alloc: Global, bound: Bound, set: Flat) -> Result<Node, Fault>
     requires chain { IsChain true set.pieces.items }
     requires listed { AreListed set.pieces.items }
-    ensures { (rest : Tokens) → Reads (spec.finished (spec.after_member bound.name bound.place bound.sign (set.pieces.items, ended set.fault rest))) result rest }
+    ensures { (rest : Tokens) → Reads
+        (spec.finished (spec.after_member bound.name bound.place bound.sign (chain_of set rest)))
+        result rest }
 {
     let Flat { mut pieces, fault } = set;
     let Bound { name, place, sign } = bound;
@@ -81,7 +83,7 @@ pub fn element(alloc: Global, bound: Bound, set: Flat) -> Result<Node, Fault>
 
 /// Whether the chain was read without a fault inside it, and this mark comes next.
 pub fn ends_at(cursor: &Cursor<'_>, setting: Setting, set: &Flat, mark: Mark) -> bool
-    ensures { result ≡ spec.ends_at setting mark (set.now.pieces.items, ended set.now.fault cursor.now) }
+    ensures { result ≡ spec.ends_at setting mark (chain_of set.now cursor.now) }
 {
     set.fault.is_none() && cursor.sees(setting, mark)
 }

@@ -4,6 +4,7 @@ ghost use Rattle.std.specs.Prelude.{◌≡◌, true, false};
 ghost use Rattle.token_reader.specs.Input as input;
 ghost use Rattle.tla_ast.specs.Answers.{Reads};
 ghost use Rattle.layout_parser.specs.Reading as spec;
+ghost use Rattle.layout_parser.specs.Reading.{rule};
 ghost use Rattle.layout_parser.specs.Nests.{Nests, Flats, ended};
 
 use crate::build::{both, leaf, whole};
@@ -51,7 +52,7 @@ impl<F: Fn(Global, &mut Cursor<'_>, usize, usize, Setting, bool) -> Result<Flat,
     #[tactic(auto, unfolding(crate::specs::Reading::bulleted))]
     fn bulleted(&self, cursor: &mut Cursor<'_>, setting: Setting) -> Result<Node, Fault>
         requires { Nests self.now.left (F.pre self.now.read) (F.post self.now.read) }
-        ensures { Reads (spec.bulleted self.now.left (spec.nested self.now.left) setting cursor.old) result cursor.new }
+        ensures { Reads (rule self.now.left spec.bulleted setting cursor.old) result cursor.new }
     {
         cursor.advance();
         self.part(cursor, setting)
@@ -66,7 +67,7 @@ impl<F: Fn(Global, &mut Cursor<'_>, usize, usize, Setting, bool) -> Result<Flat,
         mark: Mark,
     ) -> Result<Parts<Node>, Fault>
         requires { Nests self.now.left (F.pre self.now.read) (F.post self.now.read) }
-        ensures { Reads (spec.items self.now.left (spec.nested self.now.left) setting mark cursor.old) result cursor.new }
+        ensures { Reads (rule self.now.left spec.items setting mark cursor.old) result cursor.new }
     {
         let mut found = Parts::new(self.alloc);
         for _turn in 0..cursor.left() {
@@ -88,7 +89,8 @@ impl<F: Fn(Global, &mut Cursor<'_>, usize, usize, Setting, bool) -> Result<Flat,
         setting: Setting,
     ) -> Result<Node, Fault>
         requires { Nests self.now.left (F.pre self.now.read) (F.post self.now.read) }
-        ensures { Reads (spec.junction self.now.left (spec.nested self.now.left) all mark setting cursor.old) result cursor.new }
+        ensures { Reads (rule self.now.left spec.junction all mark setting cursor.old)
+            result cursor.new }
     {
         let place = cursor.place();
         let parts = self.items(cursor, setting.right_of(place.column), mark)?;
@@ -99,7 +101,7 @@ impl<F: Fn(Global, &mut Cursor<'_>, usize, usize, Setting, bool) -> Result<Flat,
     #[tactic(auto, unfolding(crate::specs::Reading::at))]
     fn at(&self, cursor: &mut Cursor<'_>, setting: Setting) -> Result<Node, Fault>
         requires { Nests self.now.left (F.pre self.now.read) (F.post self.now.read) }
-        ensures { Reads (spec.at self.now.left (spec.nested self.now.left) setting cursor.old) result cursor.new }
+        ensures { Reads (rule self.now.left spec.at setting cursor.old) result cursor.new }
     {
         if !setting.has_at {
             return Err(cursor.refusal(self.alloc, setting, Stop::Operand));
@@ -111,7 +113,8 @@ impl<F: Fn(Global, &mut Cursor<'_>, usize, usize, Setting, bool) -> Result<Flat,
     /// An operand by the mark of its first token.
     fn operand_by(&self, cursor: &mut Cursor<'_>, setting: Setting) -> Result<Node, Fault>
         requires { Nests self.now.left (F.pre self.now.read) (F.post self.now.read) }
-        ensures { Reads (spec.operand_by self.now.left (spec.nested self.now.left) setting (input.mark cursor.old) cursor.old) result cursor.new }
+        ensures { Reads (rule self.now.left spec.operand_by setting (input.mark cursor.old) cursor.old)
+            result cursor.new }
     {
         match cursor.mark() {
             Mark::Name => self.named(cursor, setting),
@@ -141,7 +144,7 @@ impl<F: Fn(Global, &mut Cursor<'_>, usize, usize, Setting, bool) -> Result<Flat,
     #[tactic(auto, unfolding(crate::specs::Reading::operand))]
     pub fn operand(&self, cursor: &mut Cursor<'_>, setting: Setting) -> Result<Node, Fault>
         requires { Nests self.now.left (F.pre self.now.read) (F.post self.now.read) }
-        ensures { Reads (spec.operand self.now.left (spec.nested self.now.left) setting cursor.old) result cursor.new }
+        ensures { Reads (rule self.now.left spec.operand setting cursor.old) result cursor.new }
     {
         if cursor.is_inside(setting) {
             self.operand_by(cursor, setting)

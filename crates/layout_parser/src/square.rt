@@ -7,7 +7,8 @@ ghost use Rattle.operator_chain.specs.Listed.{AreListed};
 ghost use Rattle.tla_ast.specs.Answers.{Reads};
 ghost use Rattle.token_reader.specs.Input.{and_then};
 ghost use Rattle.layout_parser.specs.Reading as spec;
-ghost use Rattle.layout_parser.specs.Nests.{Nests, Flats, ended};
+ghost use Rattle.layout_parser.specs.Reading.{rule};
+ghost use Rattle.layout_parser.specs.Nests.{Nests, Flats, chain_of};
 
 use crate::build::{binary, leaf, whole};
 use crate::flat::Flat;
@@ -27,6 +28,7 @@ pub struct Fields {
 }
 
 impl Fields {
+    /// No fields.
     fn new(alloc: Global) -> Fields
         ensures { result ≡ spec.no_fields }
     {
@@ -36,6 +38,7 @@ impl Fields {
         }
     }
 
+    /// One field more.
     fn push(&mut self, alloc: Global, field: Decl, value: Node) -> Result<(), Memory>
         ensures { OnOk result (self.new ≡ spec.with_field self.old (field, value)) }
     {
@@ -60,7 +63,8 @@ impl<F: Fn(Global, &mut Cursor<'_>, usize, usize, Setting, bool) -> Result<Flat,
         mark: Mark,
     ) -> Result<(Decl, Node), Fault>
         requires { Nests self.now.left (F.pre self.now.read) (F.post self.now.read) }
-        ensures { Reads (spec.field_of self.now.left (spec.nested self.now.left) setting mark cursor.old) result cursor.new }
+        ensures { Reads (rule self.now.left spec.field_of setting mark cursor.old)
+            result cursor.new }
     {
         let field = cursor.declared(self.alloc, setting, Stop::Other)?;
         cursor.expect(self.alloc, setting, Stop::Other, mark)?;
@@ -72,7 +76,7 @@ impl<F: Fn(Global, &mut Cursor<'_>, usize, usize, Setting, bool) -> Result<Flat,
     #[tactic(auto, using(token_reader::proofs::Turns::turn), unfolding(token_reader::specs::Lists::gathered, token_reader::specs::Lists::gathered_from))]
     fn fields(&self, cursor: &mut Cursor<'_>, setting: Setting, mark: Mark) -> Result<Fields, Fault>
         requires { Nests self.now.left (F.pre self.now.read) (F.post self.now.read) }
-        ensures { Reads (spec.fields self.now.left (spec.nested self.now.left) setting mark cursor.old) result cursor.new }
+        ensures { Reads (rule self.now.left spec.fields setting mark cursor.old) result cursor.new }
     {
         let mut fields = Fields::new(self.alloc);
         for _turn in 0..cursor.left() {
@@ -94,7 +98,8 @@ impl<F: Fn(Global, &mut Cursor<'_>, usize, usize, Setting, bool) -> Result<Flat,
         place: Place,
     ) -> Result<Node, Fault>
         requires { Nests self.now.left (F.pre self.now.read) (F.post self.now.read) }
-        ensures { Reads (spec.record_of self.now.left (spec.nested self.now.left) setting place cursor.old) result cursor.new }
+        ensures { Reads (rule self.now.left spec.record_of setting place cursor.old)
+            result cursor.new }
     {
         let Fields { names, parts } = self.fields(cursor, setting, Mark::Maps)?;
         cursor.expect(self.alloc, setting, Stop::Expression, Mark::CloseSquare)?;
@@ -110,7 +115,8 @@ impl<F: Fn(Global, &mut Cursor<'_>, usize, usize, Setting, bool) -> Result<Flat,
         place: Place,
     ) -> Result<Node, Fault>
         requires { Nests self.now.left (F.pre self.now.read) (F.post self.now.read) }
-        ensures { Reads (spec.record_set self.now.left (spec.nested self.now.left) setting place cursor.old) result cursor.new }
+        ensures { Reads (rule self.now.left spec.record_set setting place cursor.old)
+            result cursor.new }
     {
         let Fields { names, parts } = self.fields(cursor, setting, Mark::Colon)?;
         cursor.expect(self.alloc, setting, Stop::Expression, Mark::CloseSquare)?;
@@ -127,7 +133,8 @@ impl<F: Fn(Global, &mut Cursor<'_>, usize, usize, Setting, bool) -> Result<Flat,
         domain: Node,
     ) -> Result<Node, Fault>
         requires { Nests self.now.left (F.pre self.now.read) (F.post self.now.read) }
-        ensures { Reads (spec.function_set self.now.left (spec.nested self.now.left) setting place domain cursor.old) result cursor.new }
+        ensures { Reads (rule self.now.left spec.function_set setting place domain cursor.old)
+            result cursor.new }
     {
         let range = self.part(cursor, setting)?;
         cursor.expect(self.alloc, setting, Stop::Expression, Mark::CloseSquare)?;
@@ -145,7 +152,8 @@ impl<F: Fn(Global, &mut Cursor<'_>, usize, usize, Setting, bool) -> Result<Flat,
         first: Node,
     ) -> Result<Node, Fault>
         requires { Nests self.now.left (F.pre self.now.read) (F.post self.now.read) }
-        ensures { Reads (spec.square_end self.now.left (spec.nested self.now.left) outer setting place first cursor.old) result cursor.new }
+        ensures { Reads (rule self.now.left spec.square_end outer setting place first cursor.old)
+            result cursor.new }
     {
         if cursor.eat(setting, Mark::CloseBox) {
             let subscript = self.subscript(cursor, setting.within(outer))?;
@@ -171,7 +179,8 @@ impl<F: Fn(Global, &mut Cursor<'_>, usize, usize, Setting, bool) -> Result<Flat,
         set: Node,
     ) -> Result<Node, Fault>
         requires { Nests self.now.left (F.pre self.now.read) (F.post self.now.read) }
-        ensures { Reads (spec.function self.now.left (spec.nested self.now.left) setting name place set cursor.old) result cursor.new }
+        ensures { Reads (rule self.now.left spec.function setting name place set cursor.old)
+            result cursor.new }
     {
         cursor.expect(self.alloc, setting, Stop::Expression, Mark::Maps)?;
         let value = self.part(cursor, setting)?;
@@ -191,7 +200,9 @@ impl<F: Fn(Global, &mut Cursor<'_>, usize, usize, Setting, bool) -> Result<Flat,
     ) -> Result<Node, Fault>
         requires nests { Nests self.now.left (F.pre self.now.read) (F.post self.now.read) }
         requires set { IsChain true set.pieces.items × AreListed set.pieces.items }
-        ensures { Reads (and_then (spec.finished (spec.after_member bound.name bound.place bound.sign (set.pieces.items, ended set.fault cursor.old))) (spec.square_end self.now.left (spec.nested self.now.left) outer setting place)) result cursor.new }
+        ensures { Reads (and_then
+            (spec.finished (spec.after_member bound.name bound.place bound.sign (chain_of set cursor.old)))
+            (rule self.now.left spec.square_end outer setting place)) result cursor.new }
     {
         let element = element(self.alloc, bound, set)?;
         self.square_end(cursor, outer, setting, place, element)
@@ -207,7 +218,8 @@ impl<F: Fn(Global, &mut Cursor<'_>, usize, usize, Setting, bool) -> Result<Flat,
         place: Place,
     ) -> Result<Node, Fault>
         requires { Nests self.now.left (F.pre self.now.read) (F.post self.now.read) }
-        ensures { Reads (spec.member_square self.now.left (spec.nested self.now.left) outer setting place cursor.old) result cursor.new }
+        ensures { Reads (rule self.now.left spec.member_square outer setting place cursor.old)
+            result cursor.new }
     {
         let bound = Bound::read(self.alloc, cursor)?;
         let most = cursor.left();
@@ -229,7 +241,8 @@ impl<F: Fn(Global, &mut Cursor<'_>, usize, usize, Setting, bool) -> Result<Flat,
         place: Place,
     ) -> Result<Node, Fault>
         requires { Nests self.now.left (F.pre self.now.read) (F.post self.now.read) }
-        ensures { Reads (spec.square_name self.now.left (spec.nested self.now.left) outer setting place cursor.old) result cursor.new }
+        ensures { Reads (rule self.now.left spec.square_name outer setting place cursor.old)
+            result cursor.new }
     {
         if cursor.sees_second(setting, Mark::Maps) {
             return self.record_of(cursor, setting, place);
@@ -254,7 +267,8 @@ impl<F: Fn(Global, &mut Cursor<'_>, usize, usize, Setting, bool) -> Result<Flat,
         place: Place,
     ) -> Result<Node, Fault>
         requires { Nests self.now.left (F.pre self.now.read) (F.post self.now.read) }
-        ensures { Reads (spec.square_from self.now.left (spec.nested self.now.left) outer setting place cursor.old) result cursor.new }
+        ensures { Reads (rule self.now.left spec.square_from outer setting place cursor.old)
+            result cursor.new }
     {
         if cursor.sees(setting, Mark::Name) {
             return self.square_name(cursor, outer, setting, place);
@@ -267,7 +281,7 @@ impl<F: Fn(Global, &mut Cursor<'_>, usize, usize, Setting, bool) -> Result<Flat,
     #[tactic(auto, unfolding(crate::specs::Reading::square))]
     pub fn square(&self, cursor: &mut Cursor<'_>, setting: Setting) -> Result<Node, Fault>
         requires { Nests self.now.left (F.pre self.now.read) (F.post self.now.read) }
-        ensures { Reads (spec.square self.now.left (spec.nested self.now.left) setting cursor.old) result cursor.new }
+        ensures { Reads (rule self.now.left spec.square setting cursor.old) result cursor.new }
     {
         let place = cursor.opening(self.left)?;
         self.square_from(

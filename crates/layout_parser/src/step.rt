@@ -4,6 +4,7 @@ ghost use Rattle.std.specs.Prelude.{◌≡◌, ◌≢◌, Ok, Err, IfOk, Some, N
 ghost use Rattle.token_reader.specs.Input as input;
 ghost use Rattle.tla_ast.specs.Answers.{Reads};
 ghost use Rattle.layout_parser.specs.Reading as spec;
+ghost use Rattle.layout_parser.specs.Reading.{rule};
 ghost use Rattle.layout_parser.specs.Nests.{Nests, Flats, Steps};
 
 use crate::flat::{Flat, Step};
@@ -30,6 +31,7 @@ fn operator_at(
     Operator::find(alloc, cursor.spelling(), fix, cursor.place())
 }
 
+/// The postfix `'`.
 fn prime_at(place: Place) -> Piece
     ensures { result ≡ spec.prime_at place }
 {
@@ -41,6 +43,7 @@ fn prime_at(place: Place) -> Piece
     })
 }
 
+/// `[e]` after an operand.
 fn index_at(argument: Node, place: Place) -> Piece
     ensures { result ≡ spec.index_at argument place }
 {
@@ -52,6 +55,7 @@ fn index_at(argument: Node, place: Place) -> Piece
     })
 }
 
+/// `.h` after an operand.
 fn field_at(name: Text, place: Place) -> Piece
     ensures { result ≡ spec.field_at name place }
 {
@@ -85,7 +89,7 @@ impl<F: Fn(Global, &mut Cursor<'_>, usize, usize, Setting, bool) -> Result<Flat,
     #[tactic(auto, unfolding(crate::specs::Reading::index))]
     fn index(&self, cursor: &mut Cursor<'_>, setting: Setting) -> Result<Node, Fault>
         requires { Nests self.now.left (F.pre self.now.read) (F.post self.now.read) }
-        ensures { Reads (spec.index self.now.left (spec.nested self.now.left) setting cursor.old) result cursor.new }
+        ensures { Reads (rule self.now.left spec.index setting cursor.old) result cursor.new }
     {
         let inside = setting.within(Around::Square);
         cursor.opening(self.left)?;
@@ -97,7 +101,7 @@ impl<F: Fn(Global, &mut Cursor<'_>, usize, usize, Setting, bool) -> Result<Flat,
     /// `[e]` after an operand.
     fn indexed(&self, cursor: &mut Cursor<'_>, setting: Setting) -> Result<Step, Memory>
         requires { Nests self.now.left (F.pre self.now.read) (F.post self.now.read) }
-        ensures { Steps (spec.indexed self.now.left (spec.nested self.now.left) setting cursor.old) result cursor.new }
+        ensures { Steps (rule self.now.left spec.indexed setting cursor.old) result cursor.new }
     {
         let place = cursor.place();
         match self.index(cursor, setting) {
@@ -113,7 +117,7 @@ impl<F: Fn(Global, &mut Cursor<'_>, usize, usize, Setting, bool) -> Result<Flat,
     #[tactic(auto, unfolding(crate::specs::Reading::step_before))]
     pub fn step_before(&self, cursor: &mut Cursor<'_>, setting: Setting) -> Result<Step, Memory>
         requires { Nests self.now.left (F.pre self.now.read) (F.post self.now.read) }
-        ensures { Steps (spec.step_before self.now.left (spec.nested self.now.left) setting cursor.old) result cursor.new }
+        ensures { Steps (rule self.now.left spec.step_before setting cursor.old) result cursor.new }
     {
         if let Some(operator) = operator_at(self.alloc, cursor, setting, Fix::Prefix)? {
             cursor.advance();
@@ -131,7 +135,8 @@ impl<F: Fn(Global, &mut Cursor<'_>, usize, usize, Setting, bool) -> Result<Flat,
     /// A postfix operator, or the end of the chain.
     fn suffixed(&self, cursor: &mut Cursor<'_>, setting: Setting) -> Result<Step, Memory>
         requires { Nests self.now.left (F.pre self.now.read) (F.post self.now.read) }
-        ensures { Steps (spec.suffixed self.now.left (spec.nested self.now.left) setting (input.mark cursor.old) cursor.old) result cursor.new }
+        ensures { Steps (rule self.now.left spec.suffixed setting (input.mark cursor.old) cursor.old)
+            result cursor.new }
     {
         match cursor.mark() {
             Mark::Prime => {
@@ -148,7 +153,7 @@ impl<F: Fn(Global, &mut Cursor<'_>, usize, usize, Setting, bool) -> Result<Flat,
     #[tactic(auto, unfolding(crate::specs::Reading::step_after))]
     pub fn step_after(&self, cursor: &mut Cursor<'_>, setting: Setting) -> Result<Step, Memory>
         requires { Nests self.now.left (F.pre self.now.read) (F.post self.now.read) }
-        ensures { Steps (spec.step_after self.now.left (spec.nested self.now.left) setting cursor.old) result cursor.new }
+        ensures { Steps (rule self.now.left spec.step_after setting cursor.old) result cursor.new }
     {
         if let Some(operator) = operator_at(self.alloc, cursor, setting, Fix::Infix)? {
             cursor.advance();

@@ -1,9 +1,10 @@
 //! IF, CASE, LET.
 
-ghost use Rattle.std.specs.Prelude.{◌≡◌};
+ghost use Rattle.std.specs.Prelude.{◌≡◌, OnOk};
 ghost use Rattle.token_reader.specs.Input as input;
 ghost use Rattle.tla_ast.specs.Answers.{Reads};
 ghost use Rattle.layout_parser.specs.Reading as spec;
+ghost use Rattle.layout_parser.specs.Reading.{rule};
 ghost use Rattle.layout_parser.specs.Nests.{Nests, Flats, ended};
 
 use crate::build::{one_part, ternary, whole};
@@ -11,11 +12,21 @@ use crate::flat::Flat;
 use crate::grammar::Grammar;
 use core_expr::Memory;
 use sqlite_items::{Boxed, Items};
-use std::alloc::Global;
+use std::alloc::{AllocError, Global};
 use tla_ast::{Decl, Def, Fault, Form, Node, Parts, Place};
 use token_reader::{Around, Cursor, Mark, Setting, Stop, names};
 
+/// One arm more: its guard and its value.
+fn push_arm(parts: &mut Parts<Node>, guard: Node, value: Node) -> Result<(), AllocError>
+    ensures { OnOk result (parts.new ≡ spec.with_arm parts.old (guard, value)) }
+{
+    parts.push(guard)?;
+    parts.push(value)?;
+    Ok(())
+}
+
 /// Reads the `[]` before a further arm, which is not that of OTHER; answers whether one comes.
+#[tactic(auto, unfolding(crate::specs::Reading::further_arm))]
 fn further_arm(cursor: &mut Cursor<'_>, setting: Setting) -> bool
     ensures { spec.further_arm setting cursor.old ≡ Ok (result, cursor.new) }
 {
@@ -29,7 +40,7 @@ impl<F: Fn(Global, &mut Cursor<'_>, usize, usize, Setting, bool) -> Result<Flat,
     #[tactic(auto, unfolding(crate::specs::Reading::conditional))]
     pub fn conditional(&self, cursor: &mut Cursor<'_>, setting: Setting) -> Result<Node, Fault>
         requires { Nests self.now.left (F.pre self.now.read) (F.post self.now.read) }
-        ensures { Reads (spec.conditional self.now.left (spec.nested self.now.left) setting cursor.old) result cursor.new }
+        ensures { Reads (rule self.now.left spec.conditional setting cursor.old) result cursor.new }
     {
         let place = cursor.take();
         let test = self.part(cursor, setting)?;
@@ -44,7 +55,7 @@ impl<F: Fn(Global, &mut Cursor<'_>, usize, usize, Setting, bool) -> Result<Flat,
     #[tactic(auto, unfolding(crate::specs::Reading::arm))]
     fn arm(&self, cursor: &mut Cursor<'_>, setting: Setting) -> Result<(Node, Node), Fault>
         requires { Nests self.now.left (F.pre self.now.read) (F.post self.now.read) }
-        ensures { Reads (spec.arm self.now.left (spec.nested self.now.left) setting cursor.old) result cursor.new }
+        ensures { Reads (rule self.now.left spec.arm setting cursor.old) result cursor.new }
     {
         let guard = self.part(cursor, setting)?;
         cursor.expect(self.alloc, setting, Stop::Expression, Mark::Arrow)?;
@@ -56,13 +67,12 @@ impl<F: Fn(Global, &mut Cursor<'_>, usize, usize, Setting, bool) -> Result<Flat,
     #[tactic(auto, using(token_reader::proofs::Turns::turn), unfolding(token_reader::specs::Lists::gathered, token_reader::specs::Lists::gathered_from))]
     fn arms(&self, cursor: &mut Cursor<'_>, setting: Setting) -> Result<Parts<Node>, Fault>
         requires { Nests self.now.left (F.pre self.now.read) (F.post self.now.read) }
-        ensures { Reads (spec.arms self.now.left (spec.nested self.now.left) setting cursor.old) result cursor.new }
+        ensures { Reads (rule self.now.left spec.arms setting cursor.old) result cursor.new }
     {
         let mut parts = Parts::new(self.alloc);
         for _turn in 0..cursor.left() {
             let (guard, value) = self.arm(cursor, setting)?;
-            parts.push(guard)?;
-            parts.push(value)?;
+            push_arm(&mut parts, guard, value)?;
             if !further_arm(cursor, setting) {
                 return Ok(parts);
             }
@@ -74,7 +84,7 @@ impl<F: Fn(Global, &mut Cursor<'_>, usize, usize, Setting, bool) -> Result<Flat,
     #[tactic(auto, unfolding(crate::specs::Reading::other_arm))]
     fn other_arm(&self, cursor: &mut Cursor<'_>, setting: Setting) -> Result<Node, Fault>
         requires { Nests self.now.left (F.pre self.now.read) (F.post self.now.read) }
-        ensures { Reads (spec.other_arm self.now.left (spec.nested self.now.left) setting cursor.old) result cursor.new }
+        ensures { Reads (rule self.now.left spec.other_arm setting cursor.old) result cursor.new }
     {
         cursor.expect(self.alloc, setting, Stop::Other, Mark::Other)?;
         cursor.expect(self.alloc, setting, Stop::Other, Mark::Arrow)?;
@@ -91,7 +101,8 @@ impl<F: Fn(Global, &mut Cursor<'_>, usize, usize, Setting, bool) -> Result<Flat,
         mut parts: Parts<Node>,
     ) -> Result<Node, Fault>
         requires { Nests self.now.left (F.pre self.now.read) (F.post self.now.read) }
-        ensures { Reads (spec.case_end self.now.left (spec.nested self.now.left) setting place parts cursor.old) result cursor.new }
+        ensures { Reads (rule self.now.left spec.case_end setting place parts cursor.old)
+            result cursor.new }
     {
         if !cursor.eat(setting, Mark::Always) {
             return Ok(whole(Form::Case { other: false }, parts, place));
@@ -104,7 +115,7 @@ impl<F: Fn(Global, &mut Cursor<'_>, usize, usize, Setting, bool) -> Result<Flat,
     #[tactic(auto, unfolding(crate::specs::Reading::cases))]
     pub fn cases(&self, cursor: &mut Cursor<'_>, setting: Setting) -> Result<Node, Fault>
         requires { Nests self.now.left (F.pre self.now.read) (F.post self.now.read) }
-        ensures { Reads (spec.cases self.now.left (spec.nested self.now.left) setting cursor.old) result cursor.new }
+        ensures { Reads (rule self.now.left spec.cases setting cursor.old) result cursor.new }
     {
         let place = cursor.take();
         let parts = self.arms(cursor, setting)?;
@@ -115,7 +126,7 @@ impl<F: Fn(Global, &mut Cursor<'_>, usize, usize, Setting, bool) -> Result<Flat,
     #[tactic(auto, unfolding(crate::specs::Reading::parameters))]
     fn parameters(&self, cursor: &mut Cursor<'_>, setting: Setting) -> Result<Items<Decl>, Fault>
         requires { Nests self.now.left (F.pre self.now.read) (F.post self.now.read) }
-        ensures { Reads (spec.parameters self.now.left (spec.nested self.now.left) setting cursor.old) result cursor.new }
+        ensures { Reads (rule self.now.left spec.parameters setting cursor.old) result cursor.new }
     {
         let inside = setting.within(Around::Other);
         cursor.opening(self.left)?;
@@ -128,7 +139,7 @@ impl<F: Fn(Global, &mut Cursor<'_>, usize, usize, Setting, bool) -> Result<Flat,
     #[tactic(auto, unfolding(crate::specs::Reading::head))]
     pub fn head(&self, cursor: &mut Cursor<'_>, setting: Setting) -> Result<Items<Decl>, Fault>
         requires { Nests self.now.left (F.pre self.now.read) (F.post self.now.read) }
-        ensures { Reads (spec.head self.now.left (spec.nested self.now.left) setting cursor.old) result cursor.new }
+        ensures { Reads (rule self.now.left spec.head setting cursor.old) result cursor.new }
     {
         if !cursor.sees(setting, Mark::OpenParen) {
             cursor.expect(self.alloc, setting, Stop::Defined, Mark::Defines)?;
@@ -143,7 +154,7 @@ impl<F: Fn(Global, &mut Cursor<'_>, usize, usize, Setting, bool) -> Result<Flat,
     #[tactic(auto, unfolding(crate::specs::Reading::definition))]
     fn definition(&self, cursor: &mut Cursor<'_>, setting: Setting) -> Result<Def, Fault>
         requires { Nests self.now.left (F.pre self.now.read) (F.post self.now.read) }
-        ensures { Reads (spec.definition self.now.left (spec.nested self.now.left) setting cursor.old) result cursor.new }
+        ensures { Reads (rule self.now.left spec.definition setting cursor.old) result cursor.new }
     {
         let Decl {
             name,
@@ -165,7 +176,7 @@ impl<F: Fn(Global, &mut Cursor<'_>, usize, usize, Setting, bool) -> Result<Flat,
     #[tactic(auto, using(token_reader::proofs::Turns::turn), unfolding(token_reader::specs::Lists::gathered, token_reader::specs::Lists::gathered_from))]
     fn definitions(&self, cursor: &mut Cursor<'_>, setting: Setting) -> Result<Items<Def>, Fault>
         requires { Nests self.now.left (F.pre self.now.read) (F.post self.now.read) }
-        ensures { Reads (spec.definitions self.now.left (spec.nested self.now.left) setting cursor.old) result cursor.new }
+        ensures { Reads (rule self.now.left spec.definitions setting cursor.old) result cursor.new }
     {
         let mut found = Items::new(self.alloc);
         for _turn in 0..cursor.left() {
@@ -181,7 +192,7 @@ impl<F: Fn(Global, &mut Cursor<'_>, usize, usize, Setting, bool) -> Result<Flat,
     #[tactic(auto, unfolding(crate::specs::Reading::local))]
     pub fn local(&self, cursor: &mut Cursor<'_>, setting: Setting) -> Result<Node, Fault>
         requires { Nests self.now.left (F.pre self.now.read) (F.post self.now.read) }
-        ensures { Reads (spec.local self.now.left (spec.nested self.now.left) setting cursor.old) result cursor.new }
+        ensures { Reads (rule self.now.left spec.local setting cursor.old) result cursor.new }
     {
         let place = cursor.take();
         let definitions = self.definitions(cursor, setting)?;

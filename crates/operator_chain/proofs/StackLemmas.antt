@@ -18,9 +18,6 @@ no-push : {A : Type 0} (xs : List A) (x : A) → [] ≡ xs ++ x ∷ [] → ⊥
 no-push [] x e = cc
 no-push (a ∷ xs) x e = cc
 
-abbrev Goes : Operator → List Open → Node → List Frame × Tree → List Frame × Tree → Type 0
-Goes op parts last q r = Keeps parts last r × (popped op q.0 q.1 ≡ popped op r.0 r.1)
-
 pub record Turn (op : Operator) (old new : List Open) (p : Open) (last : Node) (q : List Frame × Tree) : Type 0 where
   pub over : nat_lt op.high (operator_in p).low ≡ true → (r : List Frame × Tree) × Keeps new (closes p last) r × (popped op q.0 q.1 ≡ popped op r.0 r.1)
   pub same : nat_lt op.high (operator_in p).low ≡ false → is_same_part p op ≡ true → Keeps new (closes p last) (popped op q.0 q.1)

@@ -71,19 +71,10 @@ pub fn plain(alloc: Global) -> Node
     }
 }
 
-fn one(alloc: Global, node: Node) -> Result<Parts<Node>, AllocError>
-    ensures { IfOk result (λ p. p ≡ node ∷ []) }
-{
-    let mut parts = Parts::new(alloc);
-    parts.push(node)?;
-    Ok(parts)
-}
-
 fn two(alloc: Global, left: Node, right: Node) -> Result<Parts<Node>, AllocError>
     ensures { IfOk result (λ p. p ≡ left ∷ right ∷ []) }
 {
-    let mut parts = Parts::new(alloc);
-    parts.push(left)?;
+    let mut parts = Parts::one(alloc, left)?;
     parts.push(right)?;
     Ok(parts)
 }
@@ -94,7 +85,7 @@ fn closed(alloc: Global, part: Open, last: Node) -> Result<Node, AllocError>
 {
     match part {
         Open::Prefix(operator) => {
-            let parts = one(alloc, last)?;
+            let parts = Parts::one(alloc, last)?;
             Ok(Node {
                 form: Form::Prefix(operator.sign),
                 parts,
@@ -124,7 +115,7 @@ fn with_ending(
     match ending {
         Ending::Prime => Ok(Node {
             form: Form::Prime,
-            parts: one(alloc, operand)?,
+            parts: Parts::one(alloc, operand)?,
             place,
         }),
         Ending::Index(argument) => Ok(Node {
@@ -134,7 +125,7 @@ fn with_ending(
         }),
         Ending::Field(name) => Ok(Node {
             form: Form::Field(name),
-            parts: one(alloc, operand)?,
+            parts: Parts::one(alloc, operand)?,
             place,
         }),
     }

@@ -1,11 +1,11 @@
 -- Readings of modules: units, statements, proofs, steps, facts and definitions.
-use Rattle.std.specs.Prelude.{◌≡◌, ◌≢◌, ℕ, zero, suc, ◌+◌, ◌-◌, Bool, true, false, not, ◌&&◌, ◌||◌, if◌then◌else◌, nat_eq, nat_lt, List, [], ◌∷◌, ◌++◌, length, map, Option, Some, None, Result, Ok, Err}
+use Rattle.std.specs.Prelude.{ℕ, zero, suc, ◌+◌, ◌-◌, Bool, true, false, ◌&&◌, ◌||◌, if◌then◌else◌, nat_eq, nat_lt, List, [], ◌∷◌, ◌++◌, length, map, Option, Some, None, Result, Ok, Err}
 use Rattle.std.specs.List.{list_any}
 use Rattle.tla_ast.specs.declared.place.Place.{Place}
 use Rattle.tla_ast.specs.declared.token.Token.{Token}
 use Rattle.tla_ast.specs.declared.token.Tok.{Tok}
 use Rattle.tla_ast.specs.declared.token.Tok.TheVariants as tok
-use Rattle.tla_ast.specs.declared.fault.Kind.TheVariants.{Expected, StepLevel, NoQed, TooDeep}
+use Rattle.tla_ast.specs.declared.fault.Kind.TheVariants.{StepLevel, NoQed, TooDeep}
 use Rattle.tla_ast.specs.declared.fault.Fault.{Fault}
 use Rattle.tla_ast.specs.declared.fault.Fault.TheVariants as fault
 use Rattle.tla_ast.specs.declared.tree.Node.{Node, out-Node}
@@ -25,10 +25,10 @@ use Rattle.tla_ast.specs.declared.unit.Fact.TheVariants as fact
 use Rattle.tla_ast.specs.declared.unit.Proof.{Proof, out-Proof}
 use Rattle.tla_ast.specs.declared.unit.Proof.TheVariants as proof
 use Rattle.tla_ast.specs.declared.unit.Proof.TheOpen.{Proof-F}
-use Rattle.tla_ast.specs.declared.unit.Step.{Step, roll-Step}
+use Rattle.tla_ast.specs.declared.unit.Step.{Step, roll-Step, out-Step}
 use Rattle.tla_ast.specs.declared.unit.StepKind.{StepKind}
 use Rattle.tla_ast.specs.declared.unit.StepKind.TheVariants as kind
-use Rattle.tla_ast.specs.declared.unit.Unit.{Unit}
+use Rattle.tla_ast.specs.declared.unit.Unit.{Unit as ModuleUnit}
 use Rattle.tla_ast.specs.declared.unit.UnitKind.{UnitKind}
 use Rattle.tla_ast.specs.declared.unit.UnitKind.TheVariants as unit
 use Rattle.tla_ast.specs.declared.unit.Module.{Module}
@@ -37,10 +37,11 @@ use Rattle.token_reader.specs.declared.mark.Mark.TheVariants as m
 use Rattle.token_reader.specs.declared.setting.Setting.{Setting}
 use Rattle.token_reader.specs.declared.setting.Stop.{Stop}
 use Rattle.token_reader.specs.declared.setting.Stop.TheVariants as stop
-use Rattle.token_reader.specs.Marks.{Text, mark_of, spelling}
-use Rattle.token_reader.specs.Input.{after, Tokens, Outcome, Reader, and_then, ◌>>=◌, ◌>>◌, ◌<$>◌, pure, refuse, refusal, take, eat, expect, declared, first, next, here, mark, sees, sees_second, exhausted}
+use Rattle.token_reader.specs.Marks.{Text, mark_of}
+use Rattle.token_reader.specs.Input.{after, Tokens, Outcome, Reader, ◌>>=◌, ◌>>◌, ◌<$>◌, pure, refuse, refusal, take, eat, expect, name, declared, first, next, here, mark, sees, sees_second, exhausted}
 use Rattle.token_reader.specs.Lists.{gathered, put_last, separated, ask, names}
-use Rattle.layout_parser.specs.Reading.{outermost, part, nested, head, bounds, group, node}
+use Rattle.layout_parser.specs.Reading as reading
+use Rattle.layout_parser.specs.Reading.{outermost, rule, head, bounds, group, node}
 
 -- ---- what stands in no bracket
 
@@ -50,7 +51,7 @@ outside = outermost 0
 
 -- an expression, where so many nestings may begin, itself among them
 unfoldable pub expression : ℕ → Reader Node
-expression n = part n (nested n) outside
+expression n = reading.expression n outside
 
 -- one or more names, with commas between
 abbrev pub plain_names : Reader (List Decl)
@@ -127,8 +128,8 @@ is_open level = list_any (λ n. nat_eq n level)
 
 -- a step token that doesn't go on with the innermost unfinished proof: that proof has no QED where the token has the level of
 -- another unfinished proof, and else the level is wrong
-abbrev pub misplaced : List ℕ → Tokens → Fault
-misplaced open ts = fault.At (here ts) (if is_open (level_of (first ts).tok) open then NoQed else StepLevel)
+unfoldable pub misplaced : List ℕ → Tokens → Fault
+misplaced levels ts = fault.At (here ts) (if is_open (level_of (first ts).tok) levels then NoQed else StepLevel)
 
 -- after a step that does not end its proof, no step follows: a proof without QED before what may follow a proof, and else Expected
 abbrev pub ends_early : Mark → Bool
@@ -165,7 +166,7 @@ module _ (n : ℕ) where
   unfoldable pub definition : Reader Def
   definition = do
     d ← declared outside stop.Other
-    ps ← head (n - 1) (nested (n - 1)) outside
+    ps ← rule (n - 1) head outside
     e ← expression n
     pure (roll-Def (record { name = d.name; params = ps; body = e; place = d.place }))
 
@@ -234,9 +235,7 @@ module _ (n : ℕ) where
 
   -- a fact that is no step token: an expression, and for HIDE a name
   abbrev pub plain_fact : Bool → Reader Node
-  plain_fact true = λ ts.
-      let bad : Outcome Node = refuse outside stop.Other ts in
-      if sees outside m.Name ts then Ok (node (form.Name (spelling (first ts).tok)) [] (here ts), next ts) else bad
+  plain_fact true = λ ts. ((λ x. node (form.Name x) [] (here ts)) <$> name outside stop.Other) ts
   plain_fact false = expression n
 
   -- a step token is the name of a step
@@ -260,9 +259,9 @@ module _ (n : ℕ) where
   cited hides = λ ts.
       let names_alone = ((λ ds. ([], ds)) <$> definitions_cited) ts in
       let facts_first = (do
-            fs ← facts hides
-            ds ← definitions_cited
-            pure (fs, ds)) ts in
+        fs ← facts hides
+        ds ← definitions_cited
+        pure (fs, ds)) ts in
       if sees outside m.Def ts then names_alone else facts_first
 
   -- ---- bound names of TAKE and PICK
@@ -270,7 +269,7 @@ module _ (n : ℕ) where
   -- groups of names that all have sets, or one group without a set
   unfoldable pub groups_after : List Decl → Reader (List Group)
   groups_after ns = λ ts.
-      let with_sets = bounds n (nested n) outside ns ts in
+      let with_sets = rule n bounds outside ns ts in
       if sees outside m.Belongs ts then with_sets else Ok (group ns None ∷ [], ts)
 
   unfoldable pub taken : Reader (List Group)
@@ -364,8 +363,8 @@ begins_proof under _ t = false
 
 -- the proof that follows, if one does
 abbrev pub optional : ProofReader → ProofReader
-optional inner under open = λ ts.
-    let found = inner under open ts in
+optional inner under levels = λ ts.
+    let found = inner under levels ts in
     if begins_proof under (mark ts) (first ts).tok then found else Ok (proof.Missing, ts)
 
 -- `n` is how many nestings may begin, the proof itself among them, and `inner` reads a proof in a further nesting
@@ -379,52 +378,52 @@ module _ (n : ℕ) (inner : ProofReader) where
 
   -- the proof of a step of this kind
   unfoldable pub step_proof : StepKind → ProofReader
-  step_proof k under open = if has_proof k then optional inner under open else pure proof.Missing
+  step_proof k under levels = if has_proof k then optional inner under levels else pure proof.Missing
 
   -- a step, where all of these levels are those of unfinished proofs, the last that of its own proof
   unfoldable pub step : List ℕ → Reader Step
-  step open = λ ts.
+  step levels = λ ts.
       (do
         place ← take
         k ← kind_of n
-        p ← step_proof k (Some (level_of (first ts).tok)) open
+        p ← step_proof k (Some (level_of (first ts).tok)) levels
         pure (roll-Step (record { place = place; level = level_of (first ts).tok; label = label_of (first ts).tok; kind = k; proof = p }))) ts
 
   -- after a step of a proof of this level the proof ends where that was its QED, and else goes on with a step of its level
   unfoldable pub steps_from : ℕ → ℕ → List ℕ → List Step → Reader (List Step)
-  steps_from zero level open found = λ ts. Err (exhausted ts)
-  steps_from (suc n) level open found = step open >>= (λ s ts.
-      let more = steps_from n level open (found ++ s ∷ []) ts in
-      let wrong : Outcome (List Step) = Err (misplaced open ts) in
+  steps_from zero level levels found = λ ts. Err (exhausted ts)
+  steps_from (suc n) level levels found = step levels >>= (λ s ts.
+      let more = steps_from n level levels (found ++ s ∷ []) ts in
+      let wrong : Outcome (List Step) = Err (misplaced levels ts) in
       let bad : Outcome (List Step) = Err (unfinished ts) in
       if is_qed (out-Step s).kind then Ok (found ++ s ∷ [], ts)
       else (if sees outside m.Step ts then (if nat_eq (level_of (first ts).tok) level then more else wrong) else bad))
 
   -- the steps of a proof of this level
   abbrev pub steps_of : ℕ → List ℕ → Reader (List Step)
-  steps_of level open = λ ts. steps_from (length ts) level open [] ts
+  steps_of level levels = λ ts. steps_from (length ts) level levels [] ts
 
   -- a proof by steps, whose level is that of its first step
   unfoldable pub steps : ProofReader
-  steps under open = λ ts.
-      let found = (proof.Steps <$> steps_of (level_of (first ts).tok) (open ++ level_of (first ts).tok ∷ [])) ts in
+  steps under levels = λ ts.
+      let found = (proof.Steps <$> steps_of (level_of (first ts).tok) (levels ++ level_of (first ts).tok ∷ [])) ts in
       if is_deeper (level_of (first ts).tok) under then found else Err (fault.At (here ts) StepLevel)
 
   abbrev pub proof_by : Option ℕ → List ℕ → Mark → Reader Proof
-  proof_by under open m.Obvious = proof.Obvious <$> take
-  proof_by under open m.Omitted = proof.Omitted <$> take
-  proof_by under open m.By = by
-  proof_by under open m.Step = steps under open
-  proof_by under open _ = refuse outside stop.Other
+  proof_by under levels m.Obvious = proof.Obvious <$> take
+  proof_by under levels m.Omitted = proof.Omitted <$> take
+  proof_by under levels m.By = by
+  proof_by under levels m.Step = steps under levels
+  proof_by under levels _ = refuse outside stop.Other
 
   -- a proof, with or without the word PROOF
   unfoldable pub proof_of : ProofReader
-  proof_of under open = λ ts. proof_by under open (mark (after outside m.Proof ts)) (after outside m.Proof ts)
+  proof_of under levels = λ ts. proof_by under levels (mark (after outside m.Proof ts)) (after outside m.Proof ts)
 
 -- a proof in a further nesting, where so many nestings may begin
 unfoldable pub subproof : ℕ → ProofReader
-subproof zero under open ts = Err (fault.At (here ts) TooDeep)
-subproof (suc n) under open ts = proof_of (suc n) (subproof n) under open ts
+subproof zero under levels ts = Err (fault.At (here ts) TooDeep)
+subproof (suc n) under levels ts = proof_of (suc n) (subproof n) under levels ts
 
 -- ---- units
 
@@ -468,13 +467,13 @@ is_by_steps (unit.Theorem x s p) = elim (out-Proof p) [ Proof-F.Steps ss ↦ tru
 is_by_steps _ = false
 
 -- A unit with its place. Right after a proof by steps a step has a wrong level.
-unfoldable pub unit_of : Bool → Reader Unit
+unfoldable pub unit_of : Bool → Reader ModuleUnit
 unit_of after_steps = λ ts.
     let found = ((λ u. record { place = here ts; kind = u }) <$> unit_by (mark ts)) ts in
     if after_steps && sees outside m.Step ts then Err (fault.At (here ts) StepLevel) else found
 
 -- units up to the end token, with rules between
-unfoldable pub units_from : ℕ → Bool → List Unit → Reader (List Unit)
+unfoldable pub units_from : ℕ → Bool → List ModuleUnit → Reader (List ModuleUnit)
 units_from zero after_steps found = λ ts. Err (exhausted ts)
 units_from (suc n) after_steps found = λ ts.
     let rule = units_from n false found (next ts) in
@@ -491,11 +490,11 @@ extends = λ ts.
     if sees outside m.Extends ts then found else Ok ([], ts)
 
 -- a module, from the name and the place of its header and the tokens after that
-abbrev pub by_units : Text → Place → Outcome (List (Text × Place) × List Unit) → Result Module Fault
+abbrev pub by_units : Text → Place → Outcome (List (Text × Place) × List ModuleUnit) → Result Module Fault
 by_units x header (Ok p) = Ok (record { name = x; header = header; extends = p.0.0; units = p.0.1 })
 by_units x header (Err e) = Err e
 
-unfoldable pub units : Reader (List Unit)
+unfoldable pub units : Reader (List ModuleUnit)
 units = λ ts. units_from (length ts) false [] ts
 
 unfoldable pub module_of : Text → Place → List Token → Result Module Fault

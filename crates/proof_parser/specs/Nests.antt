@@ -4,12 +4,13 @@ use Rattle.std.specs.declared.alloc.Global.{Global}
 use denote.Ref.{MutBor, Bor}
 use Rattle.tla_ast.specs.declared.fault.Fault.{Fault}
 use Rattle.tla_ast.specs.declared.unit.Proof.{Proof}
-use Rattle.token_reader.specs.Input.{Tokens, Reads}
+use Rattle.tla_ast.specs.Answers.{Reads}
+use Rattle.token_reader.specs.Input.{Tokens}
 use Rattle.proof_parser.specs.Modules.{subproof}
 
 -- the function reads proofs where so many nestings may begin, and may always be called
 pub record Nests (left : ℕ) (pre : Global → MutBor Tokens → ℕ → Option ℕ → Bor (List ℕ) → Type 0)
     (post : Global → MutBor Tokens → ℕ → Option ℕ → Bor (List ℕ) → Result Proof Fault → MutBor Tokens → Type 0) : Type 0 where
-  pub callable : (alloc : Global) (old : MutBor Tokens) (under : Option ℕ) (open : Bor (List ℕ)) → pre alloc old left under open
-  pub reads : (alloc : Global) (old new : MutBor Tokens) (under : Option ℕ) (open : Bor (List ℕ)) (r : Result Proof Fault) → post alloc old left under open r new
-      → Reads (subproof left under open.now old.now) r new.now
+  pub callable : (alloc : Global) (old : MutBor Tokens) (under : Option ℕ) (levels : Bor (List ℕ)) → pre alloc old left under levels
+  pub reads : (alloc : Global) (old new : MutBor Tokens) (under : Option ℕ) (levels : Bor (List ℕ)) (r : Result Proof Fault) → post alloc old left under levels r new
+      → Reads (subproof left under levels.now old.now) r new.now

@@ -3,7 +3,6 @@
 ghost use Rattle.std.specs.Prelude.{◌≡◌, ◌||◌, [], IfOk};
 ghost use Rattle.token_reader.specs.Input as input;
 ghost use Rattle.tla_ast.specs.Answers.{Reads};
-ghost use Rattle.layout_parser.specs.Reading as reading;
 ghost use Rattle.proof_parser.specs.Modules as spec;
 
 use crate::name::outside;
@@ -62,7 +61,12 @@ impl Clauses {
             arity: _,
             place,
         } = cursor.declared(self.alloc, outside(), Stop::Other)?;
-        let params = definition_head(self.alloc, cursor, self.nestings.saturating_sub(1), outside())?;
+        let params = definition_head(
+            self.alloc,
+            cursor,
+            self.nestings.saturating_sub(1),
+            outside(),
+        )?;
         let body = self.expression(cursor)?;
         let body = Boxed::new(self.alloc, body)?;
         Ok(Def {
@@ -107,11 +111,14 @@ impl Clauses {
         let sort = Sort::Constant;
         let decl = cursor.declared(self.alloc, outside(), Stop::Other)?;
         if !cursor.eat(outside(), Mark::Belongs) {
-            return self.name_end(cursor, Item::New {
-                sort,
-                decl,
-                domain: None,
-            });
+            return self.name_end(
+                cursor,
+                Item::New {
+                    sort,
+                    decl,
+                    domain: None,
+                },
+            );
         }
         let set = self.expression(cursor)?;
         let domain = Some(Boxed::new(self.alloc, set)?);
@@ -124,11 +131,14 @@ impl Clauses {
         ensures { Reads (spec.new_variable self.nestings sort cursor.old) result cursor.new }
     {
         let decl = cursor.declared(self.alloc, outside(), Stop::Other)?;
-        self.name_end(cursor, Item::New {
-            sort,
-            decl,
-            domain: None,
-        })
+        self.name_end(
+            cursor,
+            Item::New {
+                sort,
+                decl,
+                domain: None,
+            },
+        )
     }
 
     /// What is declared, after NEW.

@@ -33,12 +33,10 @@ pub fn plain_names(alloc: Global, cursor: &mut Cursor<'_>) -> Result<Items<Decl>
 fn blanks(alloc: Global, cursor: &mut Cursor<'_>) -> Result<u64, Fault>
     ensures { Reads (spec.blanks cursor.old) result cursor.new }
 {
-    let mut count: u64 = 0;
-    for _turn in 0..cursor.left() {
+    for turn in 0..cursor.left() as u64 {
         cursor.expect(alloc, outside(), Stop::Other, Mark::Underscore)?;
-        count += 1;
         if !cursor.eat(outside(), Mark::Comma) {
-            return Ok(count);
+            return Ok(turn + 1);
         }
     }
     Err(cursor.exhausted())

@@ -1,8 +1,7 @@
 //! Proofs and steps. The rules take the reader of proofs of a further nesting as a parameter: so each is proved by itself, and one
 //! function alone recurses.
 
-ghost use Rattle.std.specs.Prelude.{◌≡◌, Some, None, if◌then◌else◌, IfOk};
-ghost use Rattle.std.specs.List.{list_any};
+ghost use Rattle.std.specs.Prelude.{◌≡◌, ◌++◌, ◌∷◌, [], Some, None, IfOk};
 ghost use Rattle.token_reader.specs.Input as input;
 ghost use Rattle.tla_ast.specs.Answers.{Told, Reads};
 ghost use Rattle.proof_parser.specs.Modules as spec;
@@ -39,17 +38,18 @@ fn is_deeper(level: u128, under: Option<u128>) -> bool
 }
 
 /// Whether a level is that of one of these unfinished proofs.
-fn is_open(open: &[u128], level: u128) -> bool
-    ensures { result ≡ spec.is_open level open.now }
+fn is_open(levels: &[u128], level: u128) -> bool
+    ensures { result ≡ spec.is_open level levels.now }
 {
-    open.iter().any(|n| *n == level)
+    levels.iter().any(|n| *n == level)
 }
 
 /// The fault at a step token that doesn't go on with the innermost unfinished proof.
-fn misplaced(cursor: &Cursor<'_>, open: &[u128]) -> Fault
-    ensures { result ≡ spec.misplaced open.now cursor.now }
+#[tactic(auto, unfolding(crate::specs::Modules::misplaced))]
+fn misplaced(cursor: &Cursor<'_>, levels: &[u128]) -> Fault
+    ensures { result ≡ spec.misplaced levels.now cursor.now }
 {
-    let kind = if is_open(open, level(cursor)) {
+    let kind = if is_open(levels, level(cursor)) {
         Kind::NoQed
     } else {
         Kind::StepLevel
@@ -104,26 +104,28 @@ fn begins_proof(cursor: &Cursor<'_>, under: Option<u128>) -> bool
 }
 
 /// The levels with one more.
-fn with_level(alloc: Global, open: &[u128], level: u128) -> Result<Vec<u128>, Memory>
-    ensures { IfOk result (λ all. all.items ≡ open.now ++ level ∷ []) }
+fn with_level(alloc: Global, levels: &[u128], level: u128) -> Result<Vec<u128>, Memory>
+    ensures { IfOk result (λ all. all.items ≡ levels.now ++ level ∷ []) }
 {
-    let mut all = Vec::from_slice(alloc, open)?;
+    let mut all = Vec::from_slice(alloc, levels)?;
     all.push(level)?;
     Ok(all)
 }
 
-impl<F: Fn(Global, &mut Cursor<'_>, usize, Option<u128>, &[u128]) -> Result<Proof, Fault>> Proofs<F> {
+impl<F: Fn(Global, &mut Cursor<'_>, usize, Option<u128>, &[u128]) -> Result<Proof, Fault>> Proofs<
+    F,
+> {
     /// A proof in a further nesting.
     fn inner(
         &self,
         cursor: &mut Cursor<'_>,
         under: Option<u128>,
-        open: &[u128],
+        levels: &[u128],
     ) -> Result<Proof, Fault>
         requires { Nests self.now.left (F.pre self.now.read) (F.post self.now.read) }
-        ensures { Reads (spec.subproof self.now.left under open.now cursor.old) result cursor.new }
+        ensures { Reads (spec.subproof self.now.left under levels.now cursor.old) result cursor.new }
     {
-        (self.read)(self.clauses.alloc, cursor, self.left, under, open)
+        (self.read)(self.clauses.alloc, cursor, self.left, under, levels)
     }
 
     /// BY.
@@ -150,13 +152,13 @@ impl<F: Fn(Global, &mut Cursor<'_>, usize, Option<u128>, &[u128]) -> Result<Proo
         cursor: &mut Cursor<'_>,
         kind: &StepKind,
         under: Option<u128>,
-        open: &[u128],
+        levels: &[u128],
     ) -> Result<Proof, Fault>
         requires { Nests self.now.left (F.pre self.now.read) (F.post self.now.read) }
-        ensures { Reads (spec.step_proof self.now.clauses.nestings (spec.subproof self.now.left) kind.now under open.now cursor.old) result cursor.new }
+        ensures { Reads (spec.step_proof self.now.clauses.nestings (spec.subproof self.now.left) kind.now under levels.now cursor.old) result cursor.new }
     {
         if has_proof(kind) && begins_proof(cursor, under) {
-            self.inner(cursor, under, open)
+            self.inner(cursor, under, levels)
         } else {
             Ok(Proof::Missing)
         }
@@ -164,15 +166,15 @@ impl<F: Fn(Global, &mut Cursor<'_>, usize, Option<u128>, &[u128]) -> Result<Proo
 
     /// A step.
     #[tactic(auto, unfolding(crate::specs::Modules::step))]
-    fn step(&self, cursor: &mut Cursor<'_>, open: &[u128]) -> Result<Step, Fault>
+    fn step(&self, cursor: &mut Cursor<'_>, levels: &[u128]) -> Result<Step, Fault>
         requires { Nests self.now.left (F.pre self.now.read) (F.post self.now.read) }
-        ensures { Reads (spec.step self.now.clauses.nestings (spec.subproof self.now.left) open.now cursor.old) result cursor.new }
+        ensures { Reads (spec.step self.now.clauses.nestings (spec.subproof self.now.left) levels.now cursor.old) result cursor.new }
     {
         let level = level(cursor);
         let label = label(self.clauses.alloc, cursor)?;
         let place = cursor.take();
         let kind = self.clauses.kind(cursor)?;
-        let proof = self.step_proof(cursor, &kind, Some(level), open)?;
+        let proof = self.step_proof(cursor, &kind, Some(level), levels)?;
         Ok(Step {
             place,
             level,
@@ -188,14 +190,14 @@ impl<F: Fn(Global, &mut Cursor<'_>, usize, Option<u128>, &[u128]) -> Result<Proo
         &self,
         cursor: &mut Cursor<'_>,
         level_of: u128,
-        open: &[u128],
+        levels: &[u128],
     ) -> Result<Items<Step>, Fault>
         requires { Nests self.now.left (F.pre self.now.read) (F.post self.now.read) }
-        ensures { Reads (spec.steps_of self.now.clauses.nestings (spec.subproof self.now.left) level_of open.now cursor.old) result cursor.new }
+        ensures { Reads (spec.steps_of self.now.clauses.nestings (spec.subproof self.now.left) level_of levels.now cursor.old) result cursor.new }
     {
         let mut found = Items::new(self.clauses.alloc);
         for _turn in 0..cursor.left() {
-            let step = self.step(cursor, open)?;
+            let step = self.step(cursor, levels)?;
             let is_last = is_qed(&step.kind);
             found.push(step)?;
             if is_last {
@@ -205,7 +207,7 @@ impl<F: Fn(Global, &mut Cursor<'_>, usize, Option<u128>, &[u128]) -> Result<Proo
                 return Err(unfinished(self.clauses.alloc, cursor));
             }
             if level(cursor) != level_of {
-                return Err(misplaced(cursor, open));
+                return Err(misplaced(cursor, levels));
             }
         }
         Err(cursor.exhausted())
@@ -217,10 +219,10 @@ impl<F: Fn(Global, &mut Cursor<'_>, usize, Option<u128>, &[u128]) -> Result<Proo
         &self,
         cursor: &mut Cursor<'_>,
         under: Option<u128>,
-        open: &[u128],
+        levels: &[u128],
     ) -> Result<Proof, Fault>
         requires { Nests self.now.left (F.pre self.now.read) (F.post self.now.read) }
-        ensures { Reads (spec.steps self.now.clauses.nestings (spec.subproof self.now.left) under open.now cursor.old) result cursor.new }
+        ensures { Reads (spec.steps self.now.clauses.nestings (spec.subproof self.now.left) under levels.now cursor.old) result cursor.new }
     {
         let level = level(cursor);
         if !is_deeper(level, under) {
@@ -229,8 +231,8 @@ impl<F: Fn(Global, &mut Cursor<'_>, usize, Option<u128>, &[u128]) -> Result<Proo
                 kind: Kind::StepLevel,
             });
         }
-        let open = with_level(self.clauses.alloc, open, level)?;
-        let steps = self.steps_of(cursor, level, open.as_slice())?;
+        let levels = with_level(self.clauses.alloc, levels, level)?;
+        let steps = self.steps_of(cursor, level, levels.as_slice())?;
         Ok(Proof::Steps(steps))
     }
 
@@ -240,17 +242,17 @@ impl<F: Fn(Global, &mut Cursor<'_>, usize, Option<u128>, &[u128]) -> Result<Proo
         &self,
         cursor: &mut Cursor<'_>,
         under: Option<u128>,
-        open: &[u128],
+        levels: &[u128],
     ) -> Result<Proof, Fault>
         requires { Nests self.now.left (F.pre self.now.read) (F.post self.now.read) }
-        ensures { Reads (spec.proof_of self.now.clauses.nestings (spec.subproof self.now.left) under open.now cursor.old) result cursor.new }
+        ensures { Reads (spec.proof_of self.now.clauses.nestings (spec.subproof self.now.left) under levels.now cursor.old) result cursor.new }
     {
         cursor.eat(outside(), Mark::Proof);
         match cursor.mark() {
             Mark::Obvious => Ok(Proof::Obvious(cursor.take())),
             Mark::Omitted => Ok(Proof::Omitted(cursor.take())),
             Mark::By => self.by(cursor),
-            Mark::Step => self.steps(cursor, under, open),
+            Mark::Step => self.steps(cursor, under, levels),
             _ => Err(cursor.refusal(self.clauses.alloc, outside(), Stop::Other)),
         }
     }
@@ -262,9 +264,9 @@ pub fn read_proof(
     cursor: &mut Cursor<'_>,
     left: usize,
     under: Option<u128>,
-    open: &[u128],
+    levels: &[u128],
 ) -> Result<Proof, Fault>
-    ensures { Reads (spec.subproof left under open.now cursor.old) result cursor.new }
+    ensures { Reads (spec.subproof left under levels.now cursor.old) result cursor.new }
 {
     if left == 0 {
         return Err(Fault::At {
@@ -281,7 +283,7 @@ pub fn read_proof(
         left: left - 1,
         read: read_proof,
     }
-    .proof(cursor, under, open)
+    .proof(cursor, under, levels)
 }
 
 /// The proof of a theorem, if it has one.

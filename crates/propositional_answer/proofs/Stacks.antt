@@ -25,10 +25,6 @@ pub trees-kept : (old new : List Node) (places : List ℕ) → Keeps old new →
 trees-kept old new places k h =
     map-reverse (tree_at new) places ∙ ap reverse (map-kept (tree_at new) (tree_at old) (length old) places k h) ∙ sym (map-reverse (tree_at old) places)
 
--- one more place
-pub trees-more : (nodes : List Node) (places : List ℕ) (i : ℕ) → trees_at nodes (places ++ i ∷ []) ≡ tree_at nodes i ∷ trees_at nodes places
-trees-more nodes places i = ap (map (tree_at nodes)) (reverse-append places (i ∷ []))
-
 -- a sign that takes no operand
 pub alone_top : {E : Type 0} (r : Result ℕ E) (s j : Sign) (old new : List Node) (places : List ℕ) (t : Tree) → s ≡ j → canonical_stacked j (trees_at old places) ≡ t ∷ trees_at old places
     → Keeps old new → All (λ i. i < length old) places → IfOk r (λ i. tree_at new i ≡ t)

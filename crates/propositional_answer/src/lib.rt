@@ -16,6 +16,3 @@ mod numbering;
 
 pub use answer::{Answered, TURN_LIMIT, answer_to, is_proved};
 pub use laws::{few_connectives_are_decided, proved_holds, saturated_falsifies};
-
-#[cfg(test)]
-mod tests;

@@ -81,9 +81,6 @@ pub theorems-stop : (all : Result (List Stated) Fault) (ss : List Stated) (ts : 
     → is_end (tok_at ts i) ≡ true → all ≡ Ok ss
 theorems-stop all ss ts k i h c = h ∙ rw c (ap (λ l. Ok l) (append-nil ss))
 
-pub theorems-none : (all : Result (List Stated) Fault) (ss : List Stated) (ts : List Token) (i : ℕ) → all ≡ behind ss (theorems 0 ts i) → all ≡ Err (left_out (place_at ts i))
-theorems-none all ss ts i h = h
-
 -- ---- units
 
 pub units-fail : (ts : List Token) (f : Fault) → constants ts 0 ≡ Err f → units ts ≡ Err f

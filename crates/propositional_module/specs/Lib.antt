@@ -5,6 +5,5 @@ pub mod Formulas
 pub mod Statement
 pub mod Module
 pub mod Grammar
-pub mod Example
 pub mod Kept
 pub mod Laws

@@ -1,6 +1,5 @@
 //! What the definitions mean, in the words of the subject.
 
-ghost use Rattle.propositional_module.specs.Example.{SmallExamples};
 ghost use Rattle.propositional_module.specs.Grammar.{UnitsStand};
 ghost use Rattle.propositional_module.specs.Laws.{EarliestStandsFirst, FrontDecides, GoalsAreWhole, PrefixReadsBack, StatementsAreFormulas};
 
@@ -32,9 +31,4 @@ pub fn front_decides()
 /// The signs of each theorem of a module that is read are those of one formula.
 pub fn goals_are_whole()
     ensures { GoalsAreWhole }
-{}
-
-/// A junction list of three items has its prefix notation and its core formula, and constants that break off are refused.
-pub fn small_examples()
-    ensures { SmallExamples }
 {}

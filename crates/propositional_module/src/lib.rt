@@ -20,11 +20,8 @@ mod unit;
 
 pub use law::{
     earliest_stands_first, front_decides, goals_are_whole, prefix_notation_reads_back,
-    small_examples, statements_are_formulas, units_stand,
+    statements_are_formulas, units_stand,
 };
 pub use reader::read;
 pub use sign::Sign;
 pub use theorem::{PropositionalModule, Theorem};
-
-#[cfg(test)]
-mod tests;

@@ -14,11 +14,7 @@ use std::alloc::Global;
 use tla_ast::Fault;
 
 /// Adds a name that is not among the known ones.
-fn declare<'a>(
-    alloc: Global,
-    known: &mut IndexSet<&'a [u8]>,
-    name: &'a Name,
-) -> Result<(), Fault>
+fn declare<'a>(alloc: Global, known: &mut IndexSet<&'a [u8]>, name: &'a Name) -> Result<(), Fault>
     ensures { AnswersAs (λ _. texts known.new) result (spec.declare_one (texts known.old) name.now) }
 {
     match known.insert_full(name.text.bytes()) {

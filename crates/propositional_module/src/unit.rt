@@ -125,11 +125,7 @@ fn read_name(alloc: Global, tokens: &Tokens, at: usize) -> Result<Name, Fault>
 }
 
 /// One name or more, with a `,` between each two, and the index after them.
-fn read_names(
-    alloc: Global,
-    tokens: &Tokens,
-    from: usize,
-) -> Result<(Items<Name>, usize), Fault>
+fn read_names(alloc: Global, tokens: &Tokens, from: usize) -> Result<(Items<Name>, usize), Fault>
     requires { IsTokenList tokens.now.list }
     ensures value { Answers result (spec.names tokens.now.list from) }
     ensures within { IfOk result (λ r. r.1 < length tokens.now.list) }
@@ -158,11 +154,7 @@ fn read_constants(alloc: Global, tokens: &Tokens) -> Result<(Items<Name>, usize)
 }
 
 /// The name of a theorem, where an identifier and `==` stand there, and the index of the theorem's expression.
-fn read_title(
-    alloc: Global,
-    tokens: &Tokens,
-    at: usize,
-) -> Result<(Option<Name>, usize), Fault>
+fn read_title(alloc: Global, tokens: &Tokens, at: usize) -> Result<(Option<Name>, usize), Fault>
     requires list { IsTokenList tokens.now.list }
     requires within { kept.HasToken tokens.now.list at }
     ensures value { Answers result (Ok (spec.title tokens.now.list at)) }

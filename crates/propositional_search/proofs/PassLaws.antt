@@ -33,14 +33,6 @@ passed-all rule k es p h = found_none rule 0 es (λ i l. p.none i (omega arith))
 pub passed-found : {X : Type 0} (rule : Entry → Option X) (k : ℕ) (es : List Entry) (x : X) → NoneBefore rule k es → k < length es → rule (entry_at es k) ≡ Some x → first_found rule 0 es ≡ Some (k, x)
 passed-found rule k es x p l s = found_at rule 0 k k es x (omega arith) l p.none s
 
--- an entry more
-pub passed-more : {X : Type 0} (rule : Entry → Option X) (k : ℕ) (es : List Entry) → NoneBefore rule k es → k < length es → rule (entry_at es k) ≡ None → NoneBefore rule (k + 1) es
-passed-more rule k es p l s =
-    record {
-      within = omega arith;
-      none = λ i h. elim (cases_lt i k) [ inl q ↦ p.none i q | inr q ↦ let e : i ≡ k = omega arith in ap (λ j. rule (entry_at es j)) e ∙ s ];
-    }
-
 pub passed-none : {X : Type 0} (rule : Entry → Option X) (es : List Entry) → NoneBefore rule 0 es
 passed-none rule es = record { within = omega arith; none = λ i h. absurd (omega arith) }
 
@@ -103,21 +95,4 @@ kept-result ns ps old new j a k m e p s =
       marked = m;
       plain = subst (λ i. NoneBefore (live_plain ns ps) i new.branch.entries) (sym p) (subst (λ es. NoneBefore (live_plain ns ps) old.plain_from es) (sym e) (passed-result (live_plain ns ps) old.plain_from old.branch.entries j a (plain-spares ns ps) k.plain));
       split = subst (λ i. NoneBefore (live_split ns ps) i new.branch.entries) (sym s) (subst (λ es. NoneBefore (live_split ns ps) old.split_from es) (sym e) (passed-result (live_split ns ps) old.split_from old.branch.entries j a (split-spares ns ps) k.split));
-    }
-
--- from the start
-pub kept-start : (ns : List Node) (ps : List ℕ) (c : Current) → IsMarked ns c.branch → c.plain_from ≡ 0 → c.split_from ≡ 0 → IsKept ns ps c
-kept-start ns ps c m p s =
-    record {
-      marked = m;
-      plain = subst (λ i. NoneBefore (live_plain ns ps) i c.branch.entries) (sym p) (passed-none (live_plain ns ps) c.branch.entries);
-      split = subst (λ i. NoneBefore (live_split ns ps) i c.branch.entries) (sym s) (passed-none (live_split ns ps) c.branch.entries);
-    }
-
--- where an entry doesn't split, it doesn't settle
-pub settled-passed : (ns : List Node) (ps : List ℕ) (vs : List Truth) (k : ℕ) (es : List Entry) → NoneBefore (live_split ns ps) k es → NoneBefore (live_settled ns ps vs) k es
-settled-passed ns ps vs k es p =
-    record {
-      within = p.within;
-      none = λ i h. ap (λ o. elim o [ Some s ↦ settled_by vs s | None ↦ None ]) (p.none i h);
     }

@@ -87,11 +87,3 @@ prepared_more start ns new ps more count place k p lt x a g e =
               let t = x place (omega (arith, p.room)) in
               subst (λ j. IsNegation new i j) (sym same) (record { within = a.0; tree = a.1 ∙ ap (λ u. not_ u) (sym t.1 ∙ ap (λ j. tree_at new j) here) })
         ]
-
-pub prepared_ready : (start ns : List Node) (ps : List ℕ) (count : ℕ) → IsPrepared start ns ps count count → IsArena ns → IsReady ns ps
-prepared_ready start ns ps count p a =
-    record {
-      arena = a;
-      negations = λ i h. p.negations i (omega (arith, p.counted));
-      small = λ k h. subst (λ n. Small n (node_at ns k)) (sym p.counted) (p.small k h);
-    }

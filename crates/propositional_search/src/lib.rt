@@ -28,6 +28,3 @@ pub use formulas::Formulas;
 pub use laws::{proved_answers_hold, saturated_answers_falsify};
 pub use node::Node;
 pub use search::{Answer, decide};
-
-#[cfg(test)]
-mod tests;

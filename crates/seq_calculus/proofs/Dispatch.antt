@@ -1,5 +1,5 @@
 -- Schemas by how many parameters there are.
-use Rattle.std.specs.Prelude.{◌≡◌, ℕ, zero, suc, Option, Some, None, List, [], ◌∷◌, length}
+use Rattle.std.specs.Prelude.{◌≡◌, ℕ, zero, suc, Some, None, List, [], ◌∷◌, length}
 use Rattle.std.proofs.Common.{refl, ap, sym, ◌∙◌, arith, get_or}
 use Rattle.core_expr.specs.Tree.{Tree}
 use Rattle.seq_calculus.specs.Schemas.{Row, if_closed, closed_instance, of_one, of_two, of_three, of_four, row22}

@@ -1,11 +1,11 @@
 -- The example of a flat proof, evaluated.
-use Rattle.std.specs.Prelude.{◌≡◌, ℕ, List, [], ◌∷◌, ◌⊎◌}
-use Rattle.std.proofs.Common.{refl, inl, inr, arith, lit<}
-use Rattle.core_expr.specs.Tree.{Tree, imp_, or_}
-use Rattle.seq_calculus.specs.Calculus.{Has, Correct}
-use Rattle.seq_calculus.specs.Lists.{Lists, AreLists, IsStep, step_fits, written, expression_counts, premise_counts}
+use Rattle.std.specs.Prelude.{[], ◌∷◌}
+use Rattle.std.proofs.Common.{refl, inl, inr, lit<}
+use Rattle.core_expr.specs.Tree.{imp_, or_}
+use Rattle.seq_calculus.specs.Calculus.{Has}
+use Rattle.seq_calculus.specs.Lists.{AreLists, step_fits, written, expression_counts, premise_counts}
 use Rattle.seq_calculus.specs.Steps.{proof_of, readings}
-use Rattle.seq_calculus.specs.Example.{first_symbol, two_steps, Proves, FailsToProve, FlatExample}
+use Rattle.seq_calculus.specs.Example.{first_symbol, two_steps, FlatExample}
 
 allowed_12 : AreLists (two_steps 12)
 unfolding step_fits expression_counts premise_counts

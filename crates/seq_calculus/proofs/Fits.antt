@@ -1,5 +1,5 @@
 -- What is loose in a schema's formula: where it is closed, so are its parameters but for the variables of its binders.
-use Rattle.std.specs.Prelude.{◌≡◌, ℕ, Bool, true, false, Option, Some, None}
+use Rattle.std.specs.Prelude.{◌≡◌, Bool, true, false, Option, Some, None}
 use Rattle.std.proofs.Common.{refl, sym, arith}
 use Rattle.core_expr.specs.Tree.{Tree}
 use Rattle.core_expr.specs.Put.{IsScoped}

@@ -1,6 +1,6 @@
 -- Steps of the loops over lists of expressions.
-use Rattle.std.specs.Prelude.{◌≡◌, ℕ, zero, suc, ◌+◌, ◌-◌, ◌<◌, ◌≤◌, Bool, true, false, IsTrue, ◌↔◌, cond, nat_le, nat_eq, Option, Some, None, List, [], ◌∷◌, ◌++◌, length, take, drop, slice_get}
-use Rattle.std.proofs.Common.{refl, ap, sym, ◌∙◌, arith, subst, get_or}
+use Rattle.std.specs.Prelude.{◌≡◌, ℕ, zero, suc, ◌+◌, ◌-◌, ◌<◌, ◌≤◌, Bool, true, false, IsTrue, ◌↔◌, List, [], ◌∷◌, ◌++◌, length, take, drop}
+use Rattle.std.proofs.Common.{refl, ap, sym, ◌∙◌, arith, get_or}
 use Rattle.std.proofs.lemmas.Bool.{false≢true}
 use Rattle.std.proofs.lemmas.List.{take_more, take_all, length-drop}
 use Rattle.core_expr.specs.Tree.{Tree, eq_}

@@ -1,7 +1,7 @@
 -- The schemas by name are the rows by number.
 use Rattle.std.specs.Prelude.{◌≡◌, ℕ, zero, suc, ◌-◌, Option, Some, None, List, [], ◌∷◌, map, slice_get}
-use Rattle.std.proofs.Common.{refl, ap, sym, ◌∙◌, sub-one, arith}
-use Rattle.seq_calculus.specs.Schemas.{Row, no_row, row_at, rows, instance_of}
+use Rattle.std.proofs.Common.{refl, ap, arith}
+use Rattle.seq_calculus.specs.Schemas.{Row, no_row, row_at, instance_of}
 use Rattle.seq_calculus.specs.Families.{schema_numbered, row_of}
 use Rattle.seq_calculus.specs.declared.schema.Schema.{Schema}
 use Rattle.seq_calculus.specs.declared.schema.TheConstants.{SCHEMAS}

@@ -1,12 +1,12 @@
 -- A map from symbols takes a derivation to a derivation.
-use Rattle.std.specs.Prelude.{◌≡◌, ℕ, zero, suc, ◌+◌, Bool, cond, Option, Some, None, List, [], ◌∷◌, ◌⊎◌, map}
-use Rattle.std.proofs.Common.{refl, ap, sym, ◌∙◌, arith, subst, inl, inr}
+use Rattle.std.specs.Prelude.{◌≡◌, ℕ, Option, Some, List, [], ◌∷◌, map}
+use Rattle.std.proofs.Common.{refl, ap, sym, subst, inl, inr}
 use Rattle.core_expr.specs.declared.head.Sym.{Sym}
 use Rattle.core_expr.specs.Tree.{Tree, true_, false_, not_, and_, or_, imp_, iff_, eq_, all_, ex_, choose_}
-use Rattle.core_expr.specs.Put.{inst, sub, subs, IsScoped}
+use Rattle.core_expr.specs.Put.{inst, sub}
 use Rattle.core_expr.proofs.Laws.{sub-inst, IsScoped-sub}
 use Rattle.seq_calculus.specs.Schemas.{instance_of}
-use Rattle.seq_calculus.specs.Calculus.{Has, HasAll, IsClosed, AllClosed, Rule, Sequent, Fits, schema_premise, premises, Proof, Proofs, Correct, AreCorrect, Der}
+use Rattle.seq_calculus.specs.Calculus.{Has, HasAll, AllClosed, Rule, Sequent, Fits, schema_premise, premises, Proof, Proofs, Correct, AreCorrect, Der}
 use Rattle.seq_calculus.specs.Calculus.Rule.{Ax, TrueR, FalseL, Weak, Cut, NotL, NotR, AndL, AndR, OrL, OrR, ImpL, ImpR, IffL, IffR, AllL, AllR, ExL, ExR, Refl, Repl, Schema}
 use Rattle.seq_calculus.specs.Calculus.Proof.{step}
 use Rattle.seq_calculus.specs.Calculus.Proofs.{no_more, more}

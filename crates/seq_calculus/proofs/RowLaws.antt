@@ -1,13 +1,11 @@
 -- A map from symbols takes an instance of a schema to an instance of it.
-use Rattle.std.specs.Prelude.{◌≡◌, ℕ, zero, suc, ◌+◌, ◌-◌, ◌*◌, ◌<◌, ◌≤◌, Bool, true, false, ◌&&◌, ◌||◌, not, cond, nat_lt, nat_le, nat_eq, Option, Some, None, List, [], ◌∷◌, length, take, drop, map}
-use Rattle.std.proofs.Common.{refl, ap, sym, ◌∙◌, arith, subst}
+use Rattle.std.specs.Prelude.{◌≡◌, ℕ, zero, suc, ◌+◌, Bool, true, false, cond, nat_le, nat_eq, Option, Some, None, List, [], ◌∷◌, length, take, drop, map}
+use Rattle.std.proofs.Common.{refl, ap, sym, ◌∙◌}
 use Rattle.std.proofs.lemmas.List.{take-map, drop-map, length-map}
 use Rattle.core_expr.specs.declared.head.Sym.{Sym}
-use Rattle.core_expr.specs.declared.head.Head.TheVariants.{Num, Str}
-use Rattle.core_expr.specs.Tree.{Tree, Parts, true_, false_, not_, and_, or_, iff_, eq_, enum_, tuple_, num_, str_, choose_}
-use Rattle.core_expr.specs.Tree.Tree.{bound, app, node, bind}
-use Rattle.core_expr.specs.Tree.Parts.{end, part}
-use Rattle.core_expr.specs.Put.{inst, shift, sub, subs}
+use Rattle.core_expr.specs.Tree.{Tree, true_, false_, not_, and_, or_, iff_, eq_, tuple_, num_, str_, choose_}
+use Rattle.core_expr.specs.Tree.Parts.{part}
+use Rattle.core_expr.specs.Put.{sub, subs}
 use Rattle.core_expr.proofs.Laws.{sub-inst, sub-shift}
 use Rattle.seq_calculus.specs.Schemas.{parts, join_from, join, equals_each, equal_pairs, nth, about_nth, are_apart, unnumbered, of_one, of_two, of_three, of_four, about_cup, about_cap, about_difference, about_power, about_union, about_filter, about_image, about_boolean, about_subset, about_extensionality, about_choice, about_then, about_otherwise, about_domain, about_application, about_functions, about_function_set, about_except, row1, row20, row21, row22, no_row, Row, rows, row_at, instance_of}
 

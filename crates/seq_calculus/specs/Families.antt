@@ -1,5 +1,5 @@
 -- The schemas by name.
-use Rattle.std.specs.Prelude.{ℕ, zero, suc, Option, Some, None, List, slice_get}
+use Rattle.std.specs.Prelude.{ℕ, zero, suc, Option, None, slice_get}
 use Rattle.core_expr.specs.Tree.{Tree}
 use Rattle.seq_calculus.specs.Schemas.{Row, unnumbered, of_one, of_two, of_three, of_four, about_boolean, about_choice, about_power, about_union, about_subset, about_extensionality, about_domain, about_cup, about_cap, about_difference, about_filter, about_image, about_then, about_otherwise, about_application, about_function_set, about_except, about_functions, row1, row20, row21, row22}
 use Rattle.seq_calculus.specs.declared.schema.OfOne.{OfOne}

@@ -3,7 +3,7 @@ use Rattle.std.specs.Prelude.{◌≡◌, ℕ, Option, Some, List, map}
 use Rattle.core_expr.specs.declared.head.Sym.{Sym}
 use Rattle.core_expr.specs.Tree.{Tree}
 use Rattle.core_expr.specs.Put.{sub}
-use Rattle.seq_calculus.specs.Schemas.{instance_of, closed_instance}
+use Rattle.seq_calculus.specs.Schemas.{closed_instance}
 use Rattle.seq_calculus.specs.Calculus.{HasAll, AllClosed, Proofs, Correct, Der}
 use Rattle.seq_calculus.specs.Calculus.Rule.{Schema}
 use Rattle.seq_calculus.specs.Calculus.Proof.{step}

@@ -31,7 +31,8 @@ fn are_three_scoped(a: &Expr, b: &Expr, c: &Expr) -> bool
 
 /// Whether the first and the third are closed, and the others have at most one loose variable.
 fn are_four_scoped(s: &Expr, d: &Expr, t: &Expr, e: &Expr) -> bool
-    ensures { IsTrue result ↔ (IsScoped 0 s.now × IsScoped 1 d.now × IsScoped 0 t.now × IsScoped 1 e.now) }
+    ensures { IsTrue result
+        ↔ (IsScoped 0 s.now × IsScoped 1 d.now × IsScoped 0 t.now × IsScoped 1 e.now) }
 {
     are_two_scoped(s, d) && are_two_scoped(t, e)
 }

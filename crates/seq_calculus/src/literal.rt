@@ -2,39 +2,41 @@
 ghost use Rattle.std.specs.Prelude.{◌≡◌, ◌↔◌, ◌∷◌, [], true, IsTrue, IfOk};
 ghost use Rattle.core_expr.specs.Tree.{not_, eq_};
 ghost use Rattle.core_expr.specs.Heads.{IsWellFormed};
-ghost use Rattle.seq_calculus.specs.Literals.{lone_head, are_heads_literal};
+ghost use Rattle.core_expr.specs.Places.{kind_of};
+ghost use Rattle.seq_calculus.specs.Literals.{is_literal};
 ghost use Rattle.seq_calculus.specs.Schemas.{are_apart, if_closed, row22};
 
 use crate::row::{if_closed, pair};
-use core_expr::{Expr, Head, Memory};
+use core_expr::theorems::last_is_root;
+use core_expr::{Expr, Head, Memory, RowKind};
 use std::alloc::Global;
 
-/// The head number of an expression that is one node, 0 where there are more.
-fn lone_head(e: &Expr) -> u64
-    ensures head { result ≡ lone_head e.now }
+/// What the root of the expression is.
+fn root(e: &Expr) -> RowKind
+    ensures kind { result ≡ kind_of e.now }
     ensures formed { IsWellFormed e.now }
 {
-    if e.length() != 1 {
-        return 0;
-    }
-    e.head(0)
+    last_is_root();
+    let nodes = e.length();
+    e.kind(nodes - 1)
 }
 
-/// Whether both head numbers are that of numbers, or both that of strings.
-fn are_heads_literal(first: u64, second: u64) -> bool
-    ensures { result ≡ are_heads_literal first second }
+/// Whether such a node is a number or a string.
+fn is_literal(kind: RowKind) -> bool
+    ensures { result ≡ is_literal kind }
 {
-    (first == 2 || first == 3) && second == first
+    matches!(kind, RowKind::Plain(Head::Num | Head::Str))
 }
 
 /// Whether these are two different numbers or two different strings.
 fn are_apart(l: &Expr, m: &Expr) -> bool
     ensures { IsTrue result ↔ (are_apart l.now m.now ≡ true) }
 {
-    if !are_heads_literal(lone_head(l), lone_head(m)) {
+    let kind = root(l);
+    if !is_literal(kind) {
         return false;
     }
-    !l.same(m)
+    root(m) == kind && !l.same(m)
 }
 
 /// `~(l = m)`.

@@ -61,7 +61,8 @@ fn equations(alloc: Global, left: &[Expr], right: &[Expr]) -> Result<Vec<Expr>, 
 /// What follows the first, joined to it from the left.
 fn join_after(alloc: Global, connective: Head, first: &Expr, rest: &[Expr]) -> Result<Expr, Memory>
     requires { IsTrue (takes connective 2) }
-    ensures { IfOk result (λ e. e ≡ join_from (λ a b. node connective [] (part a (part b end))) first.now rest.now) }
+    ensures { IfOk result (λ e.
+        e ≡ join_from (λ a b. node connective [] (part a (part b end))) first.now rest.now) }
 {
     let mut joined = first.copy(alloc)?;
     for item in rest {
@@ -74,7 +75,8 @@ fn join_after(alloc: Global, connective: Head, first: &Expr, rest: &[Expr]) -> R
 fn join(alloc: Global, connective: Head, none: Head, items: &[Expr]) -> Result<Expr, Memory>
     requires connective_fits { IsTrue (takes connective 2) }
     requires none_fits { IsTrue (takes none 0) }
-    ensures { IfOk result (λ e. e ≡ join (λ a b. node connective [] (part a (part b end))) (node none [] end) items.now) }
+    ensures { IfOk result (λ e. e ≡ join (λ a b. node connective [] (part a (part b end)))
+        (node none [] end) items.now) }
 {
     if items.is_empty() {
         return Expr::leaf(alloc, none);

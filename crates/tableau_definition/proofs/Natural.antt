@@ -200,9 +200,6 @@ by_schema g k z ps i cg ci e =
 pub loosen : (n : ℕ) (e : Tree) → IsScoped n e → IsScoped (suc n) e
 loosen n e h = subst (IsScoped (suc n)) (shift_closed n n 1 e (omega arith) h) (IsScoped-shift n n 1 (suc n) e (omega arith) h)
 
-loosens : (n : ℕ) (ps : Parts) → AreScoped n ps → AreScoped (suc n) ps
-loosens n ps h = subst (AreScoped (suc n)) (shifts_closed n n 1 ps (omega arith) h) (AreScoped-shifts n n 1 (suc n) ps (omega arith) h)
-
 -- the closed terms s stand as the variable d
 abbrev mutual
   abstract : Tree → ℕ → Tree → Tree

@@ -2,7 +2,7 @@
 use Rattle.std.specs.Prelude.{◌≡◌, List, [], ◌∷◌}
 use Rattle.std.proofs.Common.{refl, sym, subst, inl, inr}
 use Rattle.core_expr.specs.Tree.{Tree, true_, false_, not_, eq_}
-use Rattle.seq_calculus.specs.Calculus.{Has, HasAll, IsClosed, AllClosed, Rule, Fits, premises, Proof, Correct, AreCorrect, Der}
+use Rattle.seq_calculus.specs.Calculus.{Has, HasAll, IsClosed, AllClosed, Rule, Fits, premises, AreCorrect, Der}
 use Rattle.seq_calculus.specs.Calculus.Rule.{Ax, TrueR, FalseL, Weak, Cut, NotL, NotR, Refl}
 use Rattle.seq_calculus.specs.Calculus.Proof.{step}
 use Rattle.seq_calculus.specs.Calculus.Proofs.{no_more, more}

@@ -1,6 +1,5 @@
 -- The unifier's laws: what it finds unifies, every unifier goes through it, and it finds one where there is one.
-use Rattle.std.specs.Prelude.{◌≡◌, ℕ, zero, suc, ◌+◌, ◌≤◌, ◌<◌, Bool, true, false, nat_lt, nat_eq, Option, Some, None, List, [], ◌∷◌, ◌++◌, ◌⊎◌, length}
-use Rattle.std.proofs.lemmas.Bool.Decides.{nat_tests}
+use Rattle.std.specs.Prelude.{◌≡◌, ℕ, zero, suc, ◌+◌, ◌≤◌, ◌<◌, Bool, true, false, nat_eq, Option, Some, None, List, [], ◌∷◌, ◌++◌, ◌⊎◌, length}
 use Rattle.std.proofs.Common.{refl, ap, sym, ◌∙◌, arith, subst, inl, inr}
 use Rattle.core_expr.specs.declared.head.Sym.{Sym}
 use Rattle.core_expr.specs.declared.head.Head.{Head}
@@ -11,7 +10,7 @@ use Rattle.core_expr.specs.Tree.{Tree, Parts}
 use Rattle.core_expr.specs.Tree.Tree.{bound, app, node, bind}
 use Rattle.core_expr.specs.Tree.Parts.{end, part}
 use Rattle.core_expr.specs.Put.{IsScoped, AreScoped}
-use Rattle.core_expr.specs.Terms.{head_code, binder_code, lists_equal, same_sym, same, nodes, nodes_of, is_scoped, are_scoped}
+use Rattle.core_expr.specs.Terms.{head_code, binder_code, lists_equal, same_sym, same, nodes, nodes_of, is_scoped}
 use Rattle.core_expr.proofs.Equal.{same-true, nat-same, lists-same, scoped-true, same-refl, sym-refl, sym-same, head-same, binder-same, lists-refl, nat-refl, true-scoped}
 use Rattle.core_expr.proofs.Laws.{IsScoped-shift, shift_closed}
 use Rattle.seq_calculus.specs.Calculus.{IsClosed}

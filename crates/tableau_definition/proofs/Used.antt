@@ -1,15 +1,10 @@
 -- What edition 2 closes, with its dropped sides, has a derivation.
 use Rattle.std.specs.Prelude.{◌≡◌, ℕ, zero, suc, ◌≤◌, Bool, true, false, nat_eq, Option, Some, None, List, [], ◌∷◌, ◌++◌, ◌⊎◌}
-use Rattle.std.proofs.lemmas.Bool.Decides.{nat_tests}
 use Rattle.std.proofs.Common.{refl, ap, sym, ◌∙◌, arith, subst, inl, inr}
-use Rattle.core_expr.specs.declared.head.Sym.{Sym}
-use Rattle.core_expr.specs.Tree.{Tree, Parts, not_}
-use Rattle.core_expr.specs.Tree.Tree.{bound, app, node, bind}
-use Rattle.core_expr.specs.Tree.Parts.{end, part}
+use Rattle.core_expr.specs.Tree.{Tree, not_}
 use Rattle.seq_calculus.specs.Calculus.{Has, HasAll, IsClosed, AllClosed, Der}
 use Rattle.tableau_definition.proofs.Rules.{HasAll-cons, HasAll-itself, HasAll-one, weak, refute}
-use Rattle.core_expr.specs.Terms.{same, sames, head_code, binder_code, kind_code, same_sym}
-use Rattle.core_expr.specs.Terms.{lists_equal}
+use Rattle.core_expr.specs.Terms.{same}
 use Rattle.tableau_definition.specs.Branches.{Branch, formulas, has, add, add_all, used, Closing, closing}
 use Rattle.tableau_definition.specs.Ranks.{Side, Step, Result}
 use Rattle.tableau_definition.specs.Search.{first_rule, Mark, Turning, Open, contains, union, without, needs_at, needs_of, split_number, with_path, apply_sides, apply, set_mark, mark_next, rest, taken, Next, turn, End, run, start, spare, search}

@@ -1,6 +1,6 @@
 //! The parts of a node of a tree, which the node can lose one after the other where no memory can be had.
 
-ghost use Rattle.std.specs.Prelude.{◌≡◌, ◌<◌, ◌↔◌, List, [], ◌∷◌, ◌++◌, length, slice_get, IsTrue, MatchOption, OnOk, OnErr};
+ghost use Rattle.std.specs.Prelude.{◌≡◌, ◌<◌, ◌↔◌, List, [], ◌∷◌, ◌++◌, length, slice_get, IsTrue, MatchOption, IfOk, OnOk, OnErr};
 ghost use Rattle.std.specs.Option.{option_copied};
 
 use std::alloc::{AllocError, Global};
@@ -94,6 +94,15 @@ impl<T> Parts<T> {
 }
 
 impl<T: Drop> Parts<T> {
+    /// One part.
+    pub fn one(alloc: Global, part: T) -> Result<Parts<T>, AllocError>
+        ensures { IfOk result (λ parts. parts ≡ part ∷ []) }
+    {
+        let mut parts = Parts::new(alloc);
+        parts.push(part)?;
+        Ok(parts)
+    }
+
     /// Puts a part behind the others.
     pub fn push(&mut self, part: T) -> Result<(), AllocError>
         ensures ok { OnOk result (self.new ≡ self.old ++ part ∷ []) }

@@ -44,9 +44,13 @@ next-left [] h l = absurd h
 next-left (t ∷ []) h l = absurd (true≢false (sym h ∙ l))
 next-left (t ∷ u ∷ us) h l = record { used = t ∷ []; is = refl; ends = h.1 }
 
-pub sees-left : (s : Setting) (k : Mark) (ts : Tokens) → is_final k ≡ false → Ends ts → sees s k ts ≡ true → LeftOf ts (next ts)
+-- a token that is seen ends no list
+pub sees-opens : (s : Setting) (k : Mark) (ts : Tokens) → is_final k ≡ false → sees s k ts ≡ true → is_last (first ts).tok ≡ false
 unfolding sees
-sees-left s k ts kept h e = next-left ts h (not-final ts k kept (marks-same (mark ts) k (and_parts _ _ e).1))
+sees-opens s k ts kept e = not-final ts k kept (marks-same (mark ts) k (and_parts _ _ e).1)
+
+pub sees-left : (s : Setting) (k : Mark) (ts : Tokens) → is_final k ≡ false → Ends ts → sees s k ts ≡ true → LeftOf ts (next ts)
+sees-left s k ts kept h e = next-left ts h (sees-opens s k ts kept e)
 
 pub after-left : (s : Setting) (k : Mark) (ts : Tokens) → is_final k ≡ false → Ends ts → LeftOf ts (after s k ts)
 unfolding after

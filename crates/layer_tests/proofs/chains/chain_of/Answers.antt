@@ -1,5 +1,5 @@
-use Rattle.operator_chain.proofs.Pushed.{pushed}
-use Rattle.operator_chain.proofs.tests.chain_of.Goals as goal
+use Rattle.layer_tests.proofs.Pushed.{pushed}
+use Rattle.layer_tests.proofs.chains.chain_of.Goals as goal
 
 pub loop-word-preserved : goal.loop-word-preserved
 loop-word-preserved c =

@@ -6,4 +6,4 @@ use Rattle.proof_parser.specs.Modules.{outside, blanks, blank}
 use Rattle.proof_parser.proofs.name.blanks.Given as goal
 
 abbrev pub invariant-loop-turn : goal.invariant-loop-turn
-invariant-loop-turn l = blanks l.fn.cursor ≡ gathered_from (l._turn-end - l._turn) (eat outside m.Comma) blank (λ n _. n + 1) l.count l.cursor
+invariant-loop-turn l = blanks l.fn.cursor ≡ gathered_from (l.turn-end - l.turn) (eat outside m.Comma) blank (λ n _. n + 1) l.turn l.cursor

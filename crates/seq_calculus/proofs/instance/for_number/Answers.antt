@@ -1,4 +1,4 @@
-use Rattle.std.proofs.Common.{◌≡◌, sym}
+use Rattle.std.proofs.Common.{sym}
 use Rattle.seq_calculus.proofs.Dispatch.{numbered_none}
 use Rattle.seq_calculus.proofs.instance.for_number.Goals as goal
 

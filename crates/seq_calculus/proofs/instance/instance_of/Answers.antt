@@ -1,4 +1,4 @@
-use Rattle.std.proofs.Common.{◌≡◌, ℕ, Option, List, IfOk, sym, subst, ◌∙◌}
+use Rattle.std.proofs.Common.{◌≡◌, Option, IfOk, sym, subst, ◌∙◌}
 use Rattle.core_expr.specs.Tree.{Tree}
 use Rattle.seq_calculus.proofs.Dispatch.{named_instance, nameless_instance}
 use Rattle.seq_calculus.proofs.instance.instance_of.Goals as goal

@@ -1,5 +1,5 @@
-use Rattle.std.proofs.Common.{◌≡◌, ℕ, ◌∙◌, sym}
-use Rattle.seq_calculus.proofs.Named.{numbered, instance_named}
+use Rattle.std.proofs.Common.{◌∙◌}
+use Rattle.seq_calculus.proofs.Named.{numbered}
 use Rattle.seq_calculus.proofs.schema.schema_at.Goals as goal
 
 pub returns : goal.returns

@@ -1,4 +1,4 @@
-use Rattle.std.proofs.Common.{◌≡◌, Some, sym, ap, ◌∙◌, rules, arith}
+use Rattle.std.proofs.Common.{Some, sym, ap, ◌∙◌, rules, arith}
 use Rattle.seq_calculus.specs.Schemas.{if_closed}
 use Rattle.seq_calculus.proofs.Listed.{slice_rest}
 use Rattle.seq_calculus.proofs.Tuples.{enumeration_row, enumeration_none}

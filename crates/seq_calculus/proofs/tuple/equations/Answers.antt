@@ -1,4 +1,4 @@
-use Rattle.std.proofs.Common.{◌≡◌, arith}
+use Rattle.std.proofs.Common.{arith}
 use Rattle.seq_calculus.proofs.Listed.{pairs_step}
 use Rattle.seq_calculus.proofs.tuple.equations.Goals as goal
 

@@ -1,4 +1,3 @@
-use Rattle.std.proofs.Common.{◌≡◌, rules}
 use Rattle.seq_calculus.proofs.Listed.{equals_step, equals_all}
 use Rattle.seq_calculus.proofs.tuple.equations_with.Goals as goal
 

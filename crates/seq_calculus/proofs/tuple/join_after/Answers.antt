@@ -1,4 +1,4 @@
-use Rattle.std.proofs.Common.{◌≡◌, [], ap, ◌∙◌, rules}
+use Rattle.std.proofs.Common.{[], ap, ◌∙◌}
 use Rattle.core_expr.specs.Tree.{Tree}
 use Rattle.core_expr.specs.Tree.Tree.{node}
 use Rattle.core_expr.specs.Tree.Parts.{end, part}

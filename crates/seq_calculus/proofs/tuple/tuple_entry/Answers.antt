@@ -1,4 +1,4 @@
-use Rattle.std.proofs.Common.{◌≡◌, Some, sym, ap, ◌∙◌, rules, arith}
+use Rattle.std.proofs.Common.{Some, sym, ap, ◌∙◌, arith}
 use Rattle.seq_calculus.specs.Schemas.{if_closed}
 use Rattle.seq_calculus.proofs.Tuples.{entry_past, entry_row}
 use Rattle.seq_calculus.proofs.tuple.tuple_entry.Goals as goal

@@ -1,8 +1,7 @@
 use Rattle.std.proofs.Common.{◌∙◌, sym, subst}
 use Rattle.layout_parser.specs.Nests.{Flats}
 use Rattle.layout_parser.specs.Reading.{nested, chain_from, behind}
-use Rattle.layout_parser.proofs.Turns.{one_more, no_more}
-use Rattle.layout_parser.proofs.ChainLaws.{chain-more, chain-stop, chain-broken, chain-none}
+use Rattle.layout_parser.proofs.ChainLaws.{one_more, no_more, chain-more, chain-stop, chain-broken, chain-none}
 use Rattle.layout_parser.proofs.grammar.Grammar.chain.Goals as goal
 
 pub loop-turn-preserved : goal.loop-turn-preserved

@@ -1,0 +1,4 @@
+---- MODULE M ----
+CONSTANTS A, B, A
+THEOREM B == C OBVIOUS
+====

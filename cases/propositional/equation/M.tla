@@ -1,0 +1,4 @@
+---- MODULE M ----
+CONSTANT A
+THEOREM A = A OBVIOUS
+====

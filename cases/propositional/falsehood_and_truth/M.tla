@@ -1,0 +1,3 @@
+---- MODULE M ----
+THEOREM FALSE /\ TRUE OBVIOUS
+====

@@ -1,0 +1,2 @@
+text ---- MODULE N ----
+CONSTANT A, A

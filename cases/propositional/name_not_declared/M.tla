@@ -1,0 +1,4 @@
+---- MODULE M ----
+THEOREM T == A OBVIOUS
+THEOREM A == B OBVIOUS
+====

@@ -1,0 +1,4 @@
+---- MODULE M ----
+CONSTANTS A, B, C
+THEOREM C /\ A => B OBVIOUS
+====

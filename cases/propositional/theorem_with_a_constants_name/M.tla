@@ -1,0 +1,4 @@
+---- MODULE M ----
+CONSTANTS A, B
+THEOREM B == C OBVIOUS
+====

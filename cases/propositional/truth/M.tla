@@ -1,0 +1,3 @@
+---- MODULE M ----
+THEOREM A == TRUE OBVIOUS
+====

@@ -1,0 +1,4 @@
+---- MODULE M ----
+CONSTANTS A, B, C
+THEOREM A \/ B => (C <=> C) OBVIOUS
+====

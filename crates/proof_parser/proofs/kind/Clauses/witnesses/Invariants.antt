@@ -1,9 +1,0 @@
-use Rattle.std.proofs.Common.{◌≡◌, ◌-◌}
-use Rattle.token_reader.specs.declared.mark.Mark.TheVariants as m
-use Rattle.token_reader.specs.Input.{eat}
-use Rattle.token_reader.specs.Lists.{gathered_from, put_last}
-use Rattle.proof_parser.specs.Modules.{outside, witnesses, last_expression}
-use Rattle.proof_parser.proofs.kind.Clauses.witnesses.Given as goal
-
-abbrev pub invariant-loop-turn : goal.invariant-loop-turn
-invariant-loop-turn l = witnesses l.self.nestings l.fn.cursor ≡ gathered_from (l._turn-end - l._turn) (eat outside m.Comma) (last_expression l.self.nestings) put_last l.found l.cursor
