@@ -5,9 +5,11 @@ use Rattle.tla_ast.specs.Word.{is_identifier}
 use Rattle.tla_ast.specs.declared.fault.Fault.{Fault}
 use Rattle.tla_ast.specs.declared.fault.Fault.TheVariants as fault
 use Rattle.tla_ast.specs.declared.unit.Module.{Module}
+use Rattle.tla_ast.specs.declared.unit.Loaded.{Loaded}
 use Rattle.tla_io.specs.Told.{Bytes, Folder, Fetches}
-use Rattle.module_shelf.specs.Loading.{Text, Outcome, followed, refused, module_under, module_at, read_text, read_as, module_in}
-use Rattle.module_shelf.specs.Causes.{WhereTold, Stops, Ends}
+use Rattle.module_shelf.specs.Loading.{Text, Outcome, followed, refused, root_module, completed, loading, module_under, module_at, read_text, read_as, module_in}
+use Rattle.module_shelf.specs.Causes.{WhereTold, Stops, Ends, EndsWith, Loads, FaultCause, LoadCause, IsNoReadFault, NoReadFault}
+use Rattle.std.specs.Result.{IsErrAnd}
 use Rattle.module_shelf.specs.declared.fault.LoadFault.{LoadFault}
 use Rattle.module_shelf.specs.declared.fault.LoadFault.TheVariants as load
 use Rattle.module_shelf.proofs.Names.{front-module}
@@ -41,6 +43,41 @@ told-always (Some f) P go = go f
 pub refusal-stops : (name : Text) (e : Fault) (r : Result Module Fault) → (e ≢ fault.Memory → r ≡ Err e) → Stops (refused name e) (read_as name r)
 refusal-stops name fault.Memory r h = tt
 refusal-stops name (fault.At place kind) r h = ap (read_as name) (h (λ x. cc))
+
+-- after no read fault the count is as it was
+pub never-fault : (e : LoadFault) (before now : ℕ) → IsNoReadFault e → now ≡ before → FaultCause e before now
+never-fault load.ReadFault before now h e = absurd h
+never-fault load.Memory before now h e = e
+never-fault (load.NotFound name) before now h e = e
+never-fault (load.Refused owner place kind) before now h e = e
+
+pub never-rose : {T : Type 0} (r : Outcome T) (before now : ℕ) → NoReadFault r → now ≡ before → LoadCause r before now
+never-rose (Ok x) before now h e = e
+never-rose (Err x) before now h e = never-fault x before now h e
+
+-- ---- an answer that passes a fault on
+
+pub err-cause : {T : Type 0} (r : Outcome T) (e : LoadFault) (before now : ℕ) → IsErrAnd r (λ x. x ≡ e) → FaultCause e before now → LoadCause r before now
+err-cause (Ok x) e before now i h = absurd i
+err-cause (Err x) e before now i h = subst (λ y. FaultCause y before now) (sym i) h
+
+pub err-told : {T A : Type 0} (r : Outcome T) (value : A) (e : LoadFault) (told : Option Folder) (o : Folder → Outcome A) → IsErrAnd r (λ x. x ≡ e) → WhereTold told (λ f. Stops e (o f)) → WhereTold told (λ f. EndsWith r value (o f))
+err-told (Ok x) value e told o i h = absurd i
+err-told (Err x) value e told o i h = subst (λ y. WhereTold told (λ f. Stops y (o f))) (sym i) h
+
+pub err-loads : (r : Outcome Loaded) (e : LoadFault) (told : Option Folder) (o : Folder → Outcome (List Module)) → IsErrAnd r (λ x. x ≡ e) → WhereTold told (λ f. Stops e (o f)) → WhereTold told (λ f. Loads r (o f))
+err-loads (Ok x) e told o i h = absurd i
+err-loads (Err x) e told o i h = subst (λ y. WhereTold told (λ f. Stops y (o f))) (sym i) h
+
+-- ---- the root
+
+pub loading-stops : (given : Option Bytes) (f : Folder) (root : Text) (x : LoadFault) → Stops x (root_module given f root) → Stops x (loading given f root)
+unfolding loading
+loading-stops given f root x h = stops-then x (root_module given f root) (λ m. completed 64 f [] m []) h
+
+pub loading-then : (given : Option Bytes) (f : Folder) (root : Text) (m : Module) → root_module given f root ≡ Ok m → loading given f root ≡ completed 64 f [] m []
+unfolding loading
+loading-then given f root m h = ap (λ r. followed r (λ x. completed 64 f [] x [])) h
 
 -- ---- a fetch
 

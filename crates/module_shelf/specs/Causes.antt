@@ -36,6 +36,20 @@ Loads (Ok loaded) defined = defined ≡ Ok loaded.modules
 Loads (Err e) defined = Stops e defined
 
 -- the shelf's count rose for a read fault, and else it stays
+abbrev pub FaultCause : LoadFault → ℕ → ℕ → Type 0
+FaultCause load.ReadFault before now = (before ≤ now) × Rose before now
+FaultCause _ before now = now ≡ before
+
+-- the same of an answer
 abbrev pub LoadCause : {T : Type 0} → Outcome T → ℕ → ℕ → Type 0
-LoadCause (Err load.ReadFault) before now = (before ≤ now) × Rose before now
-LoadCause _ before now = now ≡ before
+LoadCause (Ok x) before now = now ≡ before
+LoadCause (Err e) before now = FaultCause e before now
+
+abbrev pub IsNoReadFault : LoadFault → Type 0
+IsNoReadFault load.ReadFault = ⊥
+IsNoReadFault _ = Unit {0}
+
+-- the answer is no read fault
+abbrev pub NoReadFault : {T : Type 0} → Outcome T → Type 0
+NoReadFault (Ok x) = Unit {0}
+NoReadFault (Err e) = IsNoReadFault e

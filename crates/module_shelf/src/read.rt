@@ -4,7 +4,7 @@ ghost use Rattle.std.specs.Prelude.{◌≡◌, IfOk, MatchOption, true, false};
 ghost use Rattle.tla_ast.specs.Answers.{Answers};
 ghost use Rattle.tla_ast.specs.Word.{is_identifier};
 ghost use Rattle.module_shelf.specs.Loading as spec;
-ghost use Rattle.module_shelf.specs.Causes.{Ends, LoadCause, WhereTold};
+ghost use Rattle.module_shelf.specs.Causes.{Ends, LoadCause, NoReadFault, WhereTold};
 
 use crate::fault::LoadFault;
 use core_expr::{Memory, Text};
@@ -52,6 +52,7 @@ pub fn refused(alloc: Global, module: &Text, fault: Fault) -> Result<LoadFault, 
 pub fn read_text(alloc: Global, name: &Text, text: &[u8]) -> Result<Module, LoadFault>
     ensures text { Ends result (spec.read_text name.now text.now) }
     ensures name { IfOk result (λ m. m.name ≡ name.now) }
+    ensures never { NoReadFault result }
 {
     match module_in(alloc, name, text) {
         Ok(module) => Ok(module),

@@ -3,7 +3,7 @@
 ghost use Rattle.std.specs.Prelude.{◌≡◌, ◌≤◌, ◌+◌, length, IfOk};
 ghost use Rattle.tla_ast.specs.Word as word;
 ghost use Rattle.module_shelf.specs.Loading as spec;
-ghost use Rattle.module_shelf.specs.Causes.{Ends, LoadCause, WhereTold};
+ghost use Rattle.module_shelf.specs.Causes.{Ends, LoadCause, NoReadFault, WhereTold};
 ghost use Rattle.module_shelf.specs.Order.{Asked, Leads};
 
 use crate::fault::LoadFault;
@@ -49,7 +49,12 @@ fn is_on(path: &[Text], name: &[u8]) -> bool
 fn is_complete(modules: &[Module], name: &[u8]) -> bool
     ensures { result ≡ word.is_among (spec.names modules.now) name.now }
 {
-    modules.iter().any(|module| module.name.bytes() == name)
+    for entry in modules {
+        if entry.name.bytes() == name {
+            return true;
+        }
+    }
+    false
 }
 
 /// Whether a name that the module `inside` extends has still to be loaded: not where it means a library module, or one that is
@@ -64,6 +69,7 @@ fn asks(
     requires { length walk.now.path + length walk.now.complete ≤ 64 }
     ensures told { Ends result
         (spec.asks walk.now.path walk.now.complete inside.now extended.now) }
+    ensures never { NoReadFault result }
     ensures asked { IfOk result (Asked walk.now.path walk.now.complete extended.now) }
 {
     let (name, place) = extended;
