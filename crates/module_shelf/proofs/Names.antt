@@ -1,17 +1,16 @@
 -- Identifiers are ASCII, and the front of a text decides.
-use Rattle.std.proofs.Common.{◌≡◌, ℕ, ◌<◌, ◌&&◌, Bool, true, false, nat_lt, List, [], ◌∷◌, ◌++◌, length, take, Result, Ok, Err, refl, sym, ap, ◌∙◌, arith, rules}
+use Rattle.std.proofs.Common.{◌≡◌, ℕ, ◌<◌, ◌&&◌, Bool, true, false, nat_lt, List, [], ◌∷◌, length, take, Err, refl, sym, ap, ◌∙◌, arith, rules}
 use Rattle.std.specs.List.{All, list_all, list_any}
-use Rattle.std.specs.Char.{is_ascii_alphanumeric, is_ascii_alphabetic}
+use Rattle.std.specs.Char.{is_ascii_alphabetic}
 use Rattle.std.specs.Str.{IsUtf8}
 use Rattle.std.proofs.lemmas.Bool.{and_parts, ltb-true, ltb-false, lt-ltb}
 use Rattle.std.proofs.lemmas.List.{length-take-le, take_all}
 use Rattle.std.proofs.lemmas.Str.{IsUtf8-from_ascii}
 use Rattle.std.proofs.lemmas.Str.Ascii.{IsAscii-from_all}
 use Rattle.std.proofs.lemmas.Grind.{common_steps}
-use Rattle.tla_ast.specs.Word.{is_word_byte, is_identifier, is_reserved, begins_with_fairness}
+use Rattle.tla_ast.specs.Word.{is_word_byte, is_identifier}
 use Rattle.tla_ast.specs.Answers.{and_then}
 use Rattle.tla_ast.specs.declared.token.Tokens.{Tokens}
-use Rattle.tla_ast.specs.declared.fault.Fault.{Fault}
 use Rattle.tla_ast.specs.declared.fault.Fault.TheVariants as fault
 use Rattle.tla_ast.specs.declared.fault.Kind.TheVariants.{TooLong}
 use Rattle.tla_lexer.specs.Place.{first}

@@ -1,6 +1,6 @@
 -- The order of the modules, along the walk.
-use Rattle.std.proofs.Common.{◌≡◌, ℕ, suc, ◌<◌, ◌≤◌, ◌+◌, ◌⊎◌, inl, inr, Bool, true, false, ◌||◌, List, [], ◌∷◌, ◌++◌, length, map, Option, Some, None, slice_index_or, refl, ap, sym, subst, ◌∙◌, arith, length-append}
-use Rattle.std.specs.List.{All, list_any}
+use Rattle.std.proofs.Common.{◌≡◌, ℕ, ◌<◌, ◌+◌, ◌⊎◌, inl, inr, Bool, true, false, ◌||◌, List, [], ◌∷◌, ◌++◌, length, Some, slice_index_or, refl, ap, sym, subst, ◌∙◌, arith, length-append}
+use Rattle.std.specs.List.{All}
 use Rattle.std.specs.Str.{bytes_eq}
 use Rattle.std.proofs.lemmas.List.{append-nil, map-append}
 use Rattle.std.proofs.lemmas.List.Folds.{list_any-append}
@@ -82,7 +82,8 @@ pub fine-next : (now : List Text) (done : List Module) (e : Text × Place) (next
 fine-next now done e next f l = record {
   order = f.order;
   apart = λ x h. elim (among-parts now next.name x h) [ inl a ↦ f.apart x a | inr s ↦ ap (is_among (names done)) (sym s ∙ l.0) ∙ l.1.1 ];
-  few = let n : length (now ++ next.name ∷ []) ≡ length now + 1 = length-append now (next.name ∷ []) in omega (arith, l.1.2, n) }
+  few = let n : length (now ++ next.name ∷ []) ≡ length now + 1 = length-append now (next.name ∷ []) in omega (arith, l.1.2, n);
+}
 
 pub next-off : (now : List Text) (done : List Module) (e : Text × Place) (next : Module) → Leads now done e (Some next) → is_among now next.name ≡ false
 next-off now done e next l = ap (is_among now) l.0 ∙ l.1.0
@@ -101,9 +102,11 @@ reached path m old done f off met kept = record {
     order = stand-last [] done m f.order met (f.apart m.name (among-itself path m.name));
     apart = λ x h. ap (λ ns. is_among ns x) (names-last done m) ∙ among-last (names done) m.name x (f.apart x (among-front path m.name x h)) (other m.name x path h off);
     few = let n : length (path ++ m.name ∷ []) ≡ length path + 1 = length-append path (m.name ∷ []) in
-          let d : length (done ++ m ∷ []) ≡ length done + 1 = length-append done (m ∷ []) in omega (arith, f.few, n, d) };
+        let d : length (done ++ m ∷ []) ≡ length done + 1 = length-append done (m ∷ []) in omega (arith, f.few, n, d);
+  };
   last = (done, refl);
-  kept = λ x h. ap (λ ns. is_among ns x) (names-last done m) ∙ among-front (names done) m.name x (kept x h) }
+  kept = λ x h. ap (λ ns. is_among ns x) (names-last done m) ∙ among-front (names done) m.name x (kept x h);
+}
 
 -- the root is the last of all
 pub ordered : (root : Text) (m : Module) (new : List Module) → m.name ≡ root → Reached [] m [] new → IsOrdered root new

@@ -1,5 +1,5 @@
 -- A turn of the walk, by the definition.
-use Rattle.std.proofs.Common.{MatchOption, true, false, ◌≡◌, ℕ, zero, suc, ◌<◌, ◌≤◌, ◌+◌, ◌-◌, List, [], ◌∷◌, ◌++◌, length, Option, Some, None, Result, Ok, Err, refl, ap, sym, subst, ◌∙◌, arith, length-append, drop, slice_index_or}
+use Rattle.std.proofs.Common.{MatchOption, true, false, ◌≡◌, ℕ, suc, ◌<◌, ◌≤◌, ◌+◌, ◌-◌, List, [], ◌∷◌, ◌++◌, length, Option, Some, None, Ok, refl, ap, sym, subst, ◌∙◌, arith, length-append, drop, slice_index_or}
 use Rattle.tla_ast.specs.declared.place.Place.{Place}
 use Rattle.tla_ast.specs.declared.unit.Module.{Module}
 use Rattle.tla_io.specs.Told.{Folder}
@@ -13,7 +13,6 @@ use Rattle.std.proofs.Math.Seq.{drop-cons}
 use Rattle.std.proofs.Math.ListN.{drop_of_length-le}
 use Rattle.std.proofs.Math.Numerals.{add-one}
 use Rattle.module_shelf.specs.declared.fault.LoadFault.{LoadFault}
-use Rattle.module_shelf.specs.declared.fault.LoadFault.TheVariants as load
 use Rattle.module_shelf.proofs.Told.{stops-then, stops-as, told-once, told-twice, told-always}
 
 -- what is still to be done for a module that has begun, where these extended names are left
@@ -87,7 +86,8 @@ walks-first told path now m done h e = record {
   ahead = told-always told _ (λ f. begun f path m done (let few = h.few in omega (arith, few, length-append path (m.name ∷ []))) ∙ ap (λ n. left f n m m.extends done) (sym e));
   fine = subst (λ n. Fine n done) (sym e) h;
   met = λ k d l. absurd (omega (arith, l));
-  known = λ name h. h }
+  known = λ name h. h;
+}
 
 drop-at : (es : List (Text × Place)) (i : ℕ) (e : Text × Place) → i < length es → e ≡ slice_index_or es i e → drop i es ≡ e ∷ drop (i + 1) es
 drop-at es i e h q = drop-cons es i e h ∙ ap (λ x. x ∷ drop (suc i) es) (sym q) ∙ ap (λ n. e ∷ drop n es) (sym (add-one i))
@@ -115,7 +115,8 @@ module _ (told : Option Folder) (path : List Text) (m : Module) (old : List Modu
     ahead = told-twice told _ _ _ (λ f q k. q ∙ passed f now m e (drop (i + 1) m.extends) done k) here h;
     fine = w.fine;
     met = met-on done (λ name h. h) l;
-    known = w.known }
+    known = w.known;
+  }
 
   both : (next : Module) → Next (Some next) → WhereTold told (λ f. (completed (64 - length path) f path m old ≡ left f now m (e ∷ drop (i + 1) m.extends) done) × (next_module f now m.name done e ≡ Ok (Some next)))
   both next n = told-twice told _ _ _ (λ f q k. (q, k)) here n
@@ -127,7 +128,8 @@ module _ (told : Option Folder) (path : List Text) (m : Module) (old : List Modu
     ahead = told-twice told _ _ _ (λ f q k. q.0 ∙ loaded f now m next e (drop (i + 1) m.extends) done new q.1 k) (both next n) h;
     fine = r.fine;
     met = met-on new r.kept (next-met now done new e next l r);
-    known = λ name h. r.kept name (w.known name h) }
+    known = λ name h. r.kept name (w.known name h);
+  }
 
   pub walks-stopped : (x : LoadFault) → WhereTold told (λ f. Stops x (next_module f now m.name done e)) → WhereTold told (λ f. Stops x (completed (64 - length path) f path m old))
   walks-stopped x h = told-twice told _ _ _ (λ f q k. stops-as x _ _ q (stopped-there f now m e (drop (i + 1) m.extends) done x k)) here h

@@ -1,5 +1,5 @@
 -- What answers say of the loading.
-use Rattle.std.proofs.Common.{◌≡◌, ◌≢◌, ℕ, ◌<◌, Bool, true, false, List, [], Option, None, Some, Result, Ok, Err, Vec, option_map, unwrap_or, take, refl, ap, sym, subst, ◌∙◌}
+use Rattle.std.proofs.Common.{◌≡◌, ◌≢◌, ℕ, ◌<◌, true, false, List, [], Option, None, Some, Result, Ok, Err, Vec, option_map, unwrap_or, take, refl, ap, sym, subst, ◌∙◌}
 use Rattle.std.specs.declared.alloc.Global.{Global}
 use Rattle.tla_ast.specs.Word.{is_identifier}
 use Rattle.tla_ast.specs.declared.fault.Fault.{Fault}
@@ -7,7 +7,7 @@ use Rattle.tla_ast.specs.declared.fault.Fault.TheVariants as fault
 use Rattle.tla_ast.specs.declared.unit.Module.{Module}
 use Rattle.tla_ast.specs.declared.unit.Loaded.{Loaded}
 use Rattle.tla_io.specs.Told.{Bytes, Folder, Fetches}
-use Rattle.module_shelf.specs.Loading.{Text, Outcome, followed, refused, root_module, completed, loading, module_under, module_at, read_text, read_as, module_in}
+use Rattle.module_shelf.specs.Loading.{Text, Outcome, followed, refused, root_module, completed, loading, module_under, module_at, read_text, read_as}
 use Rattle.module_shelf.specs.Causes.{WhereTold, Stops, Ends, EndsWith, Loads, FaultCause, LoadCause, IsNoReadFault, NoReadFault}
 use Rattle.std.specs.Result.{IsErrAnd}
 use Rattle.module_shelf.specs.declared.fault.LoadFault.{LoadFault}

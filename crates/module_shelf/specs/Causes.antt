@@ -1,5 +1,5 @@
 -- How a loading ends, by its answer.
-use Rattle.std.specs.Prelude.{◌≡◌, ℕ, ◌≤◌, List, Option, Some, None, Result, Ok, Err}
+use Rattle.std.specs.Prelude.{◌≡◌, ℕ, ◌≤◌, List, Option, Some, None, Ok, Err}
 use Rattle.tla_io.specs.Causes.{Rose}
 use Rattle.tla_io.specs.Told.{Folder}
 use Rattle.tla_ast.specs.declared.unit.Module.{Module}

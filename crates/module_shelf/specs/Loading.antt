@@ -9,7 +9,6 @@ use Rattle.tla_ast.specs.declared.place.Place.{Place}
 use Rattle.tla_ast.specs.declared.token.Tokens.{Tokens}
 use Rattle.tla_ast.specs.declared.fault.Fault.{Fault}
 use Rattle.tla_ast.specs.declared.fault.Fault.TheVariants as fault
-use Rattle.tla_ast.specs.declared.fault.Kind.{Kind}
 use Rattle.tla_ast.specs.declared.fault.Kind.TheVariants.{NameMismatch, Cycle, TooMany}
 use Rattle.tla_ast.specs.declared.unit.Module.{Module}
 use Rattle.proof_parser.specs.Modules.{module_of}

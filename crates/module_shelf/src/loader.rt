@@ -7,8 +7,8 @@ ghost use Rattle.module_shelf.specs.Order.{Fine, Reached, IsOrdered};
 ghost use Rattle.module_shelf.specs.Causes.{Ends, EndsWith, Loads, LoadCause, WhereTold};
 
 use crate::fault::LoadFault;
-use crate::walk::{Walk, next_module};
 use crate::read::{fetch_module, read_text};
+use crate::walk::{Walk, next_module};
 use core_expr::Text;
 use sqlite_items::Items;
 use std::alloc::Global;

@@ -1,9 +1,9 @@
-use Rattle.std.proofs.Common.{◌≡◌, ℕ, ◌<◌, ◌≤◌, ◌+◌, ◌-◌, List, [], ◌∷◌, ◌++◌, length, drop, slice_index_or, Option, Some, None, Ok, refl, ap, sym, subst, ◌∙◌, arith, length-append}
+use Rattle.std.proofs.Common.{◌≡◌, ◌<◌, ◌≤◌, ◌+◌, ◌-◌, List, [], ◌∷◌, ◌++◌, length, slice_index_or, Option, Some, None, Ok, refl, ap, sym, subst, ◌∙◌, arith, length-append}
 use Rattle.tla_ast.specs.declared.unit.Module.{Module}
 use Rattle.module_shelf.specs.declared.walk.Walk.{Walk}
-use Rattle.module_shelf.specs.Loading.{Text, Outcome, next_module, completed}
+use Rattle.module_shelf.specs.Loading.{next_module, completed}
 use Rattle.module_shelf.specs.Order.{Leads, Reached}
-use Rattle.module_shelf.specs.Causes.{WhereTold, Stops, FaultCause, EndsWith}
+use Rattle.module_shelf.specs.Causes.{WhereTold, Stops, FaultCause}
 use Rattle.module_shelf.proofs.Told.{err-told, err-cause}
 use Rattle.module_shelf.proofs.Stand.{fine-next, next-off}
 use Rattle.module_shelf.proofs.Steps.{Walks, walks-first, walks-passed, walks-loaded, walks-stopped, walks-broken, walks-last, walks-reached, at-same, popped}
@@ -16,7 +16,8 @@ loop-extended-init g t c =
     record {
       walks = walks-first (g.S.Shelf.folder c.args.shelf.now) c.args.walk.now.path c.push.new.self c.args.module c.args.walk.now.complete c.requires.fine p;
       folder = refl;
-      count = refl }
+      count = refl;
+    }
 
 pub next_module-requires : goal.next_module-requires
 next_module-requires g t c = c.loop-extended.invariant.walks.fine.few
@@ -31,14 +32,14 @@ returns-in_err-next-clause-told g t c =
     let within : i < length c.args.module.extends = subst (λ l. i < length l) items c.loop-extended-test.true in
     let item : e ≡ slice_index_or c.args.module.extends i e = c.extended-item.is ∙ ap (λ l. slice_index_or l i e) items in
     err-told c.from_residual-in_err-next.result c.loop-extended.walk.complete c.in_err-next.field-0.0 told
-      (λ f. completed (64 - length c.args.walk.now.path) f c.args.walk.now.path c.args.module c.args.walk.now.complete) c.from_residual-in_err-next.ensures.1
-      (walks-stopped told c.args.walk.now.path c.args.module c.args.walk.now.complete i c.loop-extended.walk.path c.loop-extended.walk.complete inv.walks e within item c.in_err-next.field-0.0
-        (at-same told (g.S.Shelf.folder c.loop-extended.shelf) (λ f. Stops c.in_err-next.field-0.0 (next_module f c.loop-extended.walk.path c.args.module.name c.loop-extended.walk.complete e)) inv.folder c.in_err-next.ensures.told))
+    (λ f. completed (64 - length c.args.walk.now.path) f c.args.walk.now.path c.args.module c.args.walk.now.complete) c.from_residual-in_err-next.ensures.1
+    (walks-stopped told c.args.walk.now.path c.args.module c.args.walk.now.complete i c.loop-extended.walk.path c.loop-extended.walk.complete inv.walks e within item c.in_err-next.field-0.0
+    (at-same told (g.S.Shelf.folder c.loop-extended.shelf) (λ f. Stops c.in_err-next.field-0.0 (next_module f c.loop-extended.walk.path c.args.module.name c.loop-extended.walk.complete e)) inv.folder c.in_err-next.ensures.told))
 
 pub returns-in_err-next-clause-cause : goal.returns-in_err-next-clause-cause
 returns-in_err-next-clause-cause g t c =
     err-cause c.from_residual-in_err-next.result c.in_err-next.field-0.0 _ _ c.from_residual-in_err-next.ensures.1
-      (subst (λ n. FaultCause c.in_err-next.field-0.0 n (g.S.Shelf.count c.next_module.new.shelf)) c.loop-extended.invariant.count c.in_err-next.ensures.cause)
+    (subst (λ n. FaultCause c.in_err-next.field-0.0 n (g.S.Shelf.count c.next_module.new.shelf)) c.loop-extended.invariant.count c.in_err-next.ensures.cause)
 
 pub returns-in_err-next-clause-kept : goal.returns-in_err-next-clause-kept
 returns-in_err-next-clause-kept g t c = c.in_err-next.ensures.kept ∙ c.loop-extended.invariant.folder
@@ -63,18 +64,18 @@ returns-in_err-complete-clause-told g t c =
     let within : i < length c.args.module.extends = subst (λ l. i < length l) items c.loop-extended-test.true in
     let item : e ≡ slice_index_or c.args.module.extends i e = c.extended-item.is ∙ ap (λ l. slice_index_or l i e) items in
     let next : WhereTold (g.S.Shelf.folder c.loop-extended.shelf) (λ f. next_module f w.path c.args.module.name w.complete e ≡ Ok (Some c.in-Some.next)) =
-      subst (λ (o : Option Module). WhereTold (g.S.Shelf.folder c.loop-extended.shelf) (λ f. next_module f w.path c.args.module.name w.complete e ≡ Ok o)) c.in-Some.is c.in_ok-next.ensures.told in
+    subst (λ (o : Option Module). WhereTold (g.S.Shelf.folder c.loop-extended.shelf) (λ f. next_module f w.path c.args.module.name w.complete e ≡ Ok o)) c.in-Some.is c.in_ok-next.ensures.told in
     err-told c.from_residual-in_err-complete.result c.complete.new.walk.complete c.in_err-complete.field-0.0 told
-      (λ f. completed (64 - length c.args.walk.now.path) f c.args.walk.now.path c.args.module c.args.walk.now.complete) c.from_residual-in_err-complete.ensures.1
-      (walks-broken told c.args.walk.now.path c.args.module c.args.walk.now.complete i w.path w.complete inv.walks e within item c.in-Some.next c.in_err-complete.field-0.0
-        (at-same told (g.S.Shelf.folder c.loop-extended.shelf) (λ f. next_module f w.path c.args.module.name w.complete e ≡ Ok (Some c.in-Some.next)) inv.folder next)
-        (at-same told (g.S.Shelf.folder c.next_module.new.shelf) (λ f. Stops c.in_err-complete.field-0.0 (completed (64 - length w.path) f w.path c.in-Some.next w.complete))
-          (c.in_ok-next.ensures.kept ∙ inv.folder) c.in_err-complete.ensures.told))
+    (λ f. completed (64 - length c.args.walk.now.path) f c.args.walk.now.path c.args.module c.args.walk.now.complete) c.from_residual-in_err-complete.ensures.1
+    (walks-broken told c.args.walk.now.path c.args.module c.args.walk.now.complete i w.path w.complete inv.walks e within item c.in-Some.next c.in_err-complete.field-0.0
+    (at-same told (g.S.Shelf.folder c.loop-extended.shelf) (λ f. next_module f w.path c.args.module.name w.complete e ≡ Ok (Some c.in-Some.next)) inv.folder next)
+    (at-same told (g.S.Shelf.folder c.next_module.new.shelf) (λ f. Stops c.in_err-complete.field-0.0 (completed (64 - length w.path) f w.path c.in-Some.next w.complete))
+    (c.in_ok-next.ensures.kept ∙ inv.folder) c.in_err-complete.ensures.told))
 
 pub returns-in_err-complete-clause-cause : goal.returns-in_err-complete-clause-cause
 returns-in_err-complete-clause-cause g t c =
     err-cause c.from_residual-in_err-complete.result c.in_err-complete.field-0.0 _ _ c.from_residual-in_err-complete.ensures.1
-      (subst (λ n. FaultCause c.in_err-complete.field-0.0 n (g.S.Shelf.count c.complete.new.shelf)) (c.in_ok-next.ensures.cause ∙ c.loop-extended.invariant.count) c.in_err-complete.ensures.cause)
+    (subst (λ n. FaultCause c.in_err-complete.field-0.0 n (g.S.Shelf.count c.complete.new.shelf)) (c.in_ok-next.ensures.cause ∙ c.loop-extended.invariant.count) c.in_err-complete.ensures.cause)
 
 pub returns-in_err-complete-clause-kept : goal.returns-in_err-complete-clause-kept
 returns-in_err-complete-clause-kept g t c = c.in_err-complete.ensures.kept ∙ c.in_ok-next.ensures.kept ∙ c.loop-extended.invariant.folder
@@ -90,29 +91,32 @@ loop-extended-preserved g t c =
     let within : i < length c.args.module.extends = subst (λ l. i < length l) items c.loop-extended-test.true in
     let item : e ≡ slice_index_or c.args.module.extends i e = c.extended-item.is ∙ ap (λ l. slice_index_or l i e) items in
     let next : (o : Option Module) → c.in_ok-next.field-0 ≡ o → WhereTold told (λ f. next_module f w.path c.args.module.name w.complete e ≡ Ok o) =
-      λ o q. at-same told (g.S.Shelf.folder c.loop-extended.shelf) (λ f. next_module f w.path c.args.module.name w.complete e ≡ Ok o) inv.folder
-        (subst (λ (x : Option Module). WhereTold (g.S.Shelf.folder c.loop-extended.shelf) (λ f. next_module f w.path c.args.module.name w.complete e ≡ Ok x)) q c.in_ok-next.ensures.told) in
+    λ o q. at-same told (g.S.Shelf.folder c.loop-extended.shelf) (λ f. next_module f w.path c.args.module.name w.complete e ≡ Ok o) inv.folder
+    (subst (λ (x : Option Module). WhereTold (g.S.Shelf.folder c.loop-extended.shelf) (λ f. next_module f w.path c.args.module.name w.complete e ≡ Ok x)) q c.in_ok-next.ensures.told) in
     let leads : (o : Option Module) → c.in_ok-next.field-0 ≡ o → Leads w.path w.complete e o = λ o q. subst (λ (x : Option Module). Leads w.path w.complete e x) q c.in_ok-next.ensures.leads in
     elim c.match-branch-4.branch [
-      in-Some+in_ok-complete b ↦
-        let child = b.in_ok-complete.ensures in
-        let at : WhereTold told (λ f. completed (64 - length w.path) f w.path b.in-Some.next w.complete ≡ Ok b.complete.new.walk.complete) =
+      | in-Some+in_ok-complete b ↦
+          let child = b.in_ok-complete.ensures in
+          let at : WhereTold told (λ f. completed (64 - length w.path) f w.path b.in-Some.next w.complete ≡ Ok b.complete.new.walk.complete) =
           at-same told (g.S.Shelf.folder c.next_module.new.shelf) (λ f. completed (64 - length w.path) f w.path b.in-Some.next w.complete ≡ Ok b.complete.new.walk.complete)
-            (c.in_ok-next.ensures.kept ∙ inv.folder) child.told in
-        let on = walks-loaded told c.args.walk.now.path c.args.module c.args.walk.now.complete i w.path w.complete inv.walks e within item b.in-Some.next b.complete.new.walk.complete
+          (c.in_ok-next.ensures.kept ∙ inv.folder) child.told in
+          let on = walks-loaded told c.args.walk.now.path c.args.module c.args.walk.now.complete i w.path w.complete inv.walks e within item b.in-Some.next b.complete.new.walk.complete
           (next (Some b.in-Some.next) b.in-Some.is) (leads (Some b.in-Some.next) b.in-Some.is) at child.order in
-        record {
-          walks = subst (λ (v : Walk). Walks told c.args.walk.now.path c.args.module c.args.walk.now.complete (i + 1) v.path v.complete) (sym b.walk-is)
-            (subst (λ p. Walks told c.args.walk.now.path c.args.module c.args.walk.now.complete (i + 1) p b.complete.new.walk.complete) (sym child.path) on);
-          folder = ap g.S.Shelf.folder b.shelf-is ∙ child.kept ∙ c.in_ok-next.ensures.kept ∙ inv.folder;
-          count = ap g.S.Shelf.count b.shelf-is ∙ child.cause ∙ c.in_ok-next.ensures.cause ∙ inv.count }
-    | in_default b ↦
-        let q = b.in_default.is in
-        let on = walks-passed told c.args.walk.now.path c.args.module c.args.walk.now.complete i w.path w.complete inv.walks e within item (next None q) (leads None q) in
-        record {
-          walks = subst (λ (v : Walk). Walks told c.args.walk.now.path c.args.module c.args.walk.now.complete (i + 1) v.path v.complete) (sym b.walk-is) on;
-          folder = ap g.S.Shelf.folder b.shelf-is ∙ c.in_ok-next.ensures.kept ∙ inv.folder;
-          count = ap g.S.Shelf.count b.shelf-is ∙ c.in_ok-next.ensures.cause ∙ inv.count } ]
+          record {
+            walks = subst (λ (v : Walk). Walks told c.args.walk.now.path c.args.module c.args.walk.now.complete (i + 1) v.path v.complete) (sym b.walk-is)
+                (subst (λ p. Walks told c.args.walk.now.path c.args.module c.args.walk.now.complete (i + 1) p b.complete.new.walk.complete) (sym child.path) on);
+            folder = ap g.S.Shelf.folder b.shelf-is ∙ child.kept ∙ c.in_ok-next.ensures.kept ∙ inv.folder;
+            count = ap g.S.Shelf.count b.shelf-is ∙ child.cause ∙ c.in_ok-next.ensures.cause ∙ inv.count;
+          }
+      | in_default b ↦
+          let q = b.in_default.is in
+          let on = walks-passed told c.args.walk.now.path c.args.module c.args.walk.now.complete i w.path w.complete inv.walks e within item (next None q) (leads None q) in
+          record {
+            walks = subst (λ (v : Walk). Walks told c.args.walk.now.path c.args.module c.args.walk.now.complete (i + 1) v.path v.complete) (sym b.walk-is) on;
+            folder = ap g.S.Shelf.folder b.shelf-is ∙ c.in_ok-next.ensures.kept ∙ inv.folder;
+            count = ap g.S.Shelf.count b.shelf-is ∙ c.in_ok-next.ensures.cause ∙ inv.count;
+          }
+    ]
 
 pub returns-in_err-push-2-clause-cause : goal.returns-in_err-push-2-clause-cause
 returns-in_err-push-2-clause-cause g t c = err-cause c.from_residual-in_err-push-2.result _ _ _ c.from_residual-in_err-push-2.ensures.1 c.loop-extended.invariant.count

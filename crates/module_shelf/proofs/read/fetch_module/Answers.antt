@@ -12,7 +12,7 @@ returns-in_ok-of-in-Ok-None-clause-told g c =
     let folder = g.S.Shelf.folder c.args.shelf.now in
     let here : Fetches folder c.args.name.now 1048577 (Ok None) = subst (λ (n : Text). Fetches folder n 1048577 (Ok None)) c.in-Some.ensures.0 told in
     subst (λ (n : Text). WhereTold folder (λ f. module_under f c.args.name.now ≡ Err (load.NotFound n))) (sym (c.in_ok-of-in-Ok-None.ensures ∙ c.bytes-in-Ok-None.ensures))
-      (fetched-none folder 1048577 c.args.name.now c.in-Some.ensures.1 here)
+    (fetched-none folder 1048577 c.args.name.now c.in-Some.ensures.1 here)
 
 pub returns-in-Ok-Some-clause-told : goal.returns-in-Ok-Some-clause-told
 returns-in-Ok-Some-clause-told g c =
@@ -20,7 +20,7 @@ returns-in-Ok-Some-clause-told g c =
     let folder = g.S.Shelf.folder c.args.shelf.now in
     let here : Fetches folder c.args.name.now 1048577 (Ok (Some c.in-Ok-Some.text)) = subst (λ (n : Text). Fetches folder n 1048577 (Ok (Some c.in-Ok-Some.text))) c.in-Some.ensures.0 told in
     fetched-text folder 1048577 (lit< tt) c.args.name.now c.in-Ok-Some.text c.read_text.result c.in-Some.ensures.1 here
-      (subst (λ (b : List ℕ). Ends c.read_text.result (read_text c.args.name.now b)) c.as_slice.ensures.value c.read_text.ensures.text)
+    (subst (λ (b : List ℕ). Ends c.read_text.result (read_text c.args.name.now b)) c.as_slice.ensures.value c.read_text.ensures.text)
 
 pub returns-in-Ok-Some-clause-cause : goal.returns-in-Ok-Some-clause-cause
 returns-in-Ok-Some-clause-cause g c = never-rose c.read_text.result _ _ c.read_text.ensures.never c.in-Ok-Some.ensures.cause
