@@ -130,7 +130,7 @@ fn shelf_of(alloc: Global, entries: &[Entry], fails: &[u64]) -> Result<MemShelf,
 }
 
 #[test]
-fn shelves(rt: HostRuntime) {
+fn shelves(rt: HostRuntime) -> Result<(), Fail> {
     let alloc = rt.alloc();
     for (root, fails, entries, want) in CASES.iter() {
         let mut shelf = shelf_of(alloc, entries, fails)?;
@@ -138,6 +138,7 @@ fn shelves(rt: HostRuntime) {
         let ended = load(alloc, &mut shelf, &root, None);
         assert!(rt; is_wanted(alloc, &ended, want)?, "{entries:?} {want:?} {ended:?}");
     }
+    Ok(())
 }
 
 /// Roots whose text is given: the text, the numbers of the fetches that fail, and what is wanted of a shelf with A and B.
@@ -151,7 +152,7 @@ const GIVEN: [(&[u8], &[u64], Want); 6] = [
 ];
 
 #[test]
-fn given_roots(rt: HostRuntime) {
+fn given_roots(rt: HostRuntime) -> Result<(), Fail> {
     let alloc = rt.alloc();
     let entries: [Entry; 3] = [(b"A", b"EXTENDS Missing"), (b"B", b""), (b"C", b"EXTENDS A")];
     for (body, fails, want) in GIVEN.iter() {
@@ -161,6 +162,7 @@ fn given_roots(rt: HostRuntime) {
         let ended = load(alloc, &mut shelf, &root, Some(text));
         assert!(rt; is_wanted(alloc, &ended, want)?, "{body:?} {ended:?}");
     }
+    Ok(())
 }
 
 /// The name of a module by its number, of two digits.
@@ -214,17 +216,18 @@ fn count(loaded: &Result<Loaded, LoadFault>) -> usize {
 }
 
 #[test]
-fn sixty_four_modules(rt: HostRuntime) {
+fn sixty_four_modules(rt: HostRuntime) -> Result<(), Fail> {
     let alloc = rt.alloc();
     let root = Text::of(alloc, b"M00")?;
     let mut shelf = chain(alloc, 63, b", TLAPS")?;
     assert!(rt; count(&load(alloc, &mut shelf, &root, None)) == 64);
     let mut shelf = star(alloc, 63)?;
     assert!(rt; count(&load(alloc, &mut shelf, &root, None)) == 64);
+    Ok(())
 }
 
 #[test]
-fn more_than_sixty_four_modules(rt: HostRuntime) {
+fn more_than_sixty_four_modules(rt: HostRuntime) -> Result<(), Fail> {
     let alloc = rt.alloc();
     let root = Text::of(alloc, b"M00")?;
     let mut shelf = chain(alloc, 64, b"")?;
@@ -236,11 +239,12 @@ fn more_than_sixty_four_modules(rt: HostRuntime) {
     let mut shelf = chain(alloc, 63, b", M00")?;
     let ended = load(alloc, &mut shelf, &root, None);
     assert!(rt; is_wanted(alloc, &ended, &Want::Refused(b"M62", 2, 14, b"Cycle M00"))?);
+    Ok(())
 }
 
 /// A chain of 64 modules whose last one extends one that the shelf has not.
 #[test]
-fn too_many_before_the_fetch(rt: HostRuntime) {
+fn too_many_before_the_fetch(rt: HostRuntime) -> Result<(), Fail> {
     let alloc = rt.alloc();
     let mut list = Vec::new(alloc);
     for number in 0..64 {
@@ -254,4 +258,5 @@ fn too_many_before_the_fetch(rt: HostRuntime) {
     let root = Text::of(alloc, b"M00")?;
     let ended = load(alloc, &mut shelf, &root, None);
     assert!(rt; is_wanted(alloc, &ended, &Want::Refused(b"M63", 2, 9, b"TooMany"))?);
+    Ok(())
 }
