@@ -1,0 +1,3 @@
+pub mod Loading
+pub mod Order
+pub mod Causes
