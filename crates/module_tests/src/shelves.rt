@@ -26,47 +26,257 @@ type Case = (&'static [u8], &'static [u64], &'static [Entry], Want);
 
 const CASES: [Case; 42] = [
     (b"A", &[], &[(b"A", b"")], Want::Loads(b"A ")),
-    (b"A", &[], &[(b"A", b"EXTENDS B"), (b"B", b"EXTENDS C"), (b"C", b"")], Want::Loads(b"C B A ")),
-    (b"A", &[], &[(b"A", b"EXTENDS B, C"), (b"B", b""), (b"C", b"")], Want::Loads(b"B C A ")),
-    (b"A", &[], &[(b"A", b"EXTENDS B, C"), (b"B", b"EXTENDS D"), (b"C", b"EXTENDS D"), (b"D", b"")], Want::Loads(b"D B C A ")),
-    (b"A", &[], &[(b"A", b"EXTENDS C, B"), (b"B", b""), (b"C", b"EXTENDS B")], Want::Loads(b"B C A ")),
-    (b"A", &[], &[(b"A", b"EXTENDS B, C"), (b"B", b"EXTENDS C"), (b"C", b"")], Want::Loads(b"C B A ")),
-    (b"A", &[], &[(b"A", b"EXTENDS B, B"), (b"B", b"")], Want::Loads(b"B A ")),
-    (b"B", &[], &[(b"A", b"EXTENDS B"), (b"B", b"")], Want::Loads(b"B ")),
-    (b"A", &[], &[(b"A", b"EXTENDS Naturals, B, TLAPS"), (b"B", b"EXTENDS Naturals")], Want::Loads(b"B A ")),
-    (b"A", &[], &[(b"A", b"EXTENDS Naturals, Integers, Sequences, FiniteSets, TLAPS")], Want::Loads(b"A ")),
-    (b"A", &[], &[(b"A", b"EXTENDS Naturals"), (b"Naturals", b"EXTENDS A")], Want::Loads(b"A ")),
-    (b"A", &[], &[(b"A", b"EXTENDS Reals")], Want::NotFound(b"Reals")),
-    (b"Naturals", &[], &[(b"Naturals", b"")], Want::Loads(b"Naturals ")),
-    (b"Naturals", &[], &[(b"Naturals", b"EXTENDS Naturals")], Want::Loads(b"Naturals ")),
-    (b"TLAPS", &[], &[(b"TLAPS", b"EXTENDS A"), (b"A", b"EXTENDS TLAPS")], Want::Loads(b"A TLAPS ")),
+    (
+        b"A",
+        &[],
+        &[(b"A", b"EXTENDS B"), (b"B", b"EXTENDS C"), (b"C", b"")],
+        Want::Loads(b"C B A "),
+    ),
+    (
+        b"A",
+        &[],
+        &[(b"A", b"EXTENDS B, C"), (b"B", b""), (b"C", b"")],
+        Want::Loads(b"B C A "),
+    ),
+    (
+        b"A",
+        &[],
+        &[
+            (b"A", b"EXTENDS B, C"),
+            (b"B", b"EXTENDS D"),
+            (b"C", b"EXTENDS D"),
+            (b"D", b""),
+        ],
+        Want::Loads(b"D B C A "),
+    ),
+    (
+        b"A",
+        &[],
+        &[(b"A", b"EXTENDS C, B"), (b"B", b""), (b"C", b"EXTENDS B")],
+        Want::Loads(b"B C A "),
+    ),
+    (
+        b"A",
+        &[],
+        &[(b"A", b"EXTENDS B, C"), (b"B", b"EXTENDS C"), (b"C", b"")],
+        Want::Loads(b"C B A "),
+    ),
+    (
+        b"A",
+        &[],
+        &[(b"A", b"EXTENDS B, B"), (b"B", b"")],
+        Want::Loads(b"B A "),
+    ),
+    (
+        b"B",
+        &[],
+        &[(b"A", b"EXTENDS B"), (b"B", b"")],
+        Want::Loads(b"B "),
+    ),
+    (
+        b"A",
+        &[],
+        &[
+            (b"A", b"EXTENDS Naturals, B, TLAPS"),
+            (b"B", b"EXTENDS Naturals"),
+        ],
+        Want::Loads(b"B A "),
+    ),
+    (
+        b"A",
+        &[],
+        &[(
+            b"A",
+            b"EXTENDS Naturals, Integers, Sequences, FiniteSets, TLAPS",
+        )],
+        Want::Loads(b"A "),
+    ),
+    (
+        b"A",
+        &[],
+        &[(b"A", b"EXTENDS Naturals"), (b"Naturals", b"EXTENDS A")],
+        Want::Loads(b"A "),
+    ),
+    (
+        b"A",
+        &[],
+        &[(b"A", b"EXTENDS Reals")],
+        Want::NotFound(b"Reals"),
+    ),
+    (
+        b"Naturals",
+        &[],
+        &[(b"Naturals", b"")],
+        Want::Loads(b"Naturals "),
+    ),
+    (
+        b"Naturals",
+        &[],
+        &[(b"Naturals", b"EXTENDS Naturals")],
+        Want::Loads(b"Naturals "),
+    ),
+    (
+        b"TLAPS",
+        &[],
+        &[(b"TLAPS", b"EXTENDS A"), (b"A", b"EXTENDS TLAPS")],
+        Want::Loads(b"A TLAPS "),
+    ),
     (b"Naturals", &[], &[], Want::NotFound(b"Naturals")),
-    (b"A", &[], &[(b"A", b"EXTENDS A")], Want::Refused(b"A", 2, 9, b"Cycle A")),
-    (b"A", &[], &[(b"A", b"EXTENDS B"), (b"B", b"EXTENDS A")], Want::Refused(b"B", 2, 9, b"Cycle A")),
-    (b"A", &[], &[(b"A", b"EXTENDS B"), (b"B", b"EXTENDS C"), (b"C", b"EXTENDS A")], Want::Refused(b"C", 2, 9, b"Cycle A")),
-    (b"A", &[], &[(b"A", b"EXTENDS B"), (b"B", b"EXTENDS D, C"), (b"C", b"EXTENDS D, B"), (b"D", b"")], Want::Refused(b"C", 2, 12, b"Cycle B")),
-    (b"A", &[1], &[(b"A", b"EXTENDS A")], Want::Refused(b"A", 2, 9, b"Cycle A")),
-    (b"A", &[], &[(b"A", b"EXTENDS A, B")], Want::Refused(b"A", 2, 9, b"Cycle A")),
+    (
+        b"A",
+        &[],
+        &[(b"A", b"EXTENDS A")],
+        Want::Refused(b"A", 2, 9, b"Cycle A"),
+    ),
+    (
+        b"A",
+        &[],
+        &[(b"A", b"EXTENDS B"), (b"B", b"EXTENDS A")],
+        Want::Refused(b"B", 2, 9, b"Cycle A"),
+    ),
+    (
+        b"A",
+        &[],
+        &[
+            (b"A", b"EXTENDS B"),
+            (b"B", b"EXTENDS C"),
+            (b"C", b"EXTENDS A"),
+        ],
+        Want::Refused(b"C", 2, 9, b"Cycle A"),
+    ),
+    (
+        b"A",
+        &[],
+        &[
+            (b"A", b"EXTENDS B"),
+            (b"B", b"EXTENDS D, C"),
+            (b"C", b"EXTENDS D, B"),
+            (b"D", b""),
+        ],
+        Want::Refused(b"C", 2, 12, b"Cycle B"),
+    ),
+    (
+        b"A",
+        &[1],
+        &[(b"A", b"EXTENDS A")],
+        Want::Refused(b"A", 2, 9, b"Cycle A"),
+    ),
+    (
+        b"A",
+        &[],
+        &[(b"A", b"EXTENDS A, B")],
+        Want::Refused(b"A", 2, 9, b"Cycle A"),
+    ),
     (b"A", &[], &[(b"A", b"EXTENDS B, A")], Want::NotFound(b"B")),
     (b"A", &[], &[], Want::NotFound(b"A")),
     (b"A", &[], &[(b"A", b"EXTENDS B")], Want::NotFound(b"B")),
-    (b"A", &[], &[(b"A", b"EXTENDS B, D"), (b"B", b"EXTENDS C")], Want::NotFound(b"C")),
+    (
+        b"A",
+        &[],
+        &[(b"A", b"EXTENDS B, D"), (b"B", b"EXTENDS C")],
+        Want::NotFound(b"C"),
+    ),
     (b"a b", &[], &[(b"a b", b"")], Want::NotFound(b"a b")),
-    (b"A", &[], &[(b"A", b"---- MODULE B ----\n====")], Want::Refused(b"A", 1, 1, b"NameMismatch")),
-    (b"A", &[], &[(b"A", b"EXTENDS B"), (b"B", b"---- MODULE C ----\n====")], Want::Refused(b"B", 1, 1, b"NameMismatch")),
-    (b"A", &[], &[(b"A", b"---- MODULE B ----\nCONSTANT\n====")], Want::Refused(b"A", 3, 1, b"Expected")),
-    (b"A", &[], &[(b"A", b"---- MODULE B ----\nEXTENDS A\n====")], Want::Refused(b"A", 1, 1, b"NameMismatch")),
-    (b"A", &[], &[(b"A", b"EXTENDS B"), (b"B", b"CONSTANT")], Want::Refused(b"B", 3, 1, b"Expected")),
-    (b"A", &[], &[(b"A", b"EXTENDS B"), (b"B", b"_1")], Want::Refused(b"B", 2, 1, b"BadByte")),
-    (b"A", &[], &[(b"A", b"EXTENDS B\n_1")], Want::Refused(b"A", 3, 1, b"BadByte")),
-    (b"A", &[], &[(b"A", b"EXTENDS B, C"), (b"B", b"EXTENDS C"), (b"C", b"x")], Want::Refused(b"C", 3, 1, b"Expected")),
-    (b"A", &[], &[(b"A", b"EXTENDS B, C"), (b"B", b"x"), (b"C", b"_1")], Want::Refused(b"B", 3, 1, b"Expected")),
-    (b"A", &[0], &[(b"A", b"EXTENDS B"), (b"B", b"EXTENDS C"), (b"C", b"")], Want::ReadFault),
-    (b"A", &[1], &[(b"A", b"EXTENDS B"), (b"B", b"EXTENDS C"), (b"C", b"")], Want::ReadFault),
-    (b"A", &[2], &[(b"A", b"EXTENDS B"), (b"B", b"EXTENDS C"), (b"C", b"")], Want::ReadFault),
-    (b"A", &[3], &[(b"A", b"EXTENDS B"), (b"B", b"EXTENDS C"), (b"C", b"")], Want::Loads(b"C B A ")),
-    (b"A", &[3], &[(b"A", b"EXTENDS B, C"), (b"B", b"EXTENDS D"), (b"C", b"EXTENDS D"), (b"D", b"")], Want::ReadFault),
-    (b"A", &[4], &[(b"A", b"EXTENDS B, C"), (b"B", b"EXTENDS D"), (b"C", b"EXTENDS D"), (b"D", b"")], Want::Loads(b"D B C A ")),
+    (
+        b"A",
+        &[],
+        &[(b"A", b"---- MODULE B ----\n====")],
+        Want::Refused(b"A", 1, 1, b"NameMismatch"),
+    ),
+    (
+        b"A",
+        &[],
+        &[(b"A", b"EXTENDS B"), (b"B", b"---- MODULE C ----\n====")],
+        Want::Refused(b"B", 1, 1, b"NameMismatch"),
+    ),
+    (
+        b"A",
+        &[],
+        &[(b"A", b"---- MODULE B ----\nCONSTANT\n====")],
+        Want::Refused(b"A", 3, 1, b"Expected"),
+    ),
+    (
+        b"A",
+        &[],
+        &[(b"A", b"---- MODULE B ----\nEXTENDS A\n====")],
+        Want::Refused(b"A", 1, 1, b"NameMismatch"),
+    ),
+    (
+        b"A",
+        &[],
+        &[(b"A", b"EXTENDS B"), (b"B", b"CONSTANT")],
+        Want::Refused(b"B", 3, 1, b"Expected"),
+    ),
+    (
+        b"A",
+        &[],
+        &[(b"A", b"EXTENDS B"), (b"B", b"_1")],
+        Want::Refused(b"B", 2, 1, b"BadByte"),
+    ),
+    (
+        b"A",
+        &[],
+        &[(b"A", b"EXTENDS B\n_1")],
+        Want::Refused(b"A", 3, 1, b"BadByte"),
+    ),
+    (
+        b"A",
+        &[],
+        &[(b"A", b"EXTENDS B, C"), (b"B", b"EXTENDS C"), (b"C", b"x")],
+        Want::Refused(b"C", 3, 1, b"Expected"),
+    ),
+    (
+        b"A",
+        &[],
+        &[(b"A", b"EXTENDS B, C"), (b"B", b"x"), (b"C", b"_1")],
+        Want::Refused(b"B", 3, 1, b"Expected"),
+    ),
+    (
+        b"A",
+        &[0],
+        &[(b"A", b"EXTENDS B"), (b"B", b"EXTENDS C"), (b"C", b"")],
+        Want::ReadFault,
+    ),
+    (
+        b"A",
+        &[1],
+        &[(b"A", b"EXTENDS B"), (b"B", b"EXTENDS C"), (b"C", b"")],
+        Want::ReadFault,
+    ),
+    (
+        b"A",
+        &[2],
+        &[(b"A", b"EXTENDS B"), (b"B", b"EXTENDS C"), (b"C", b"")],
+        Want::ReadFault,
+    ),
+    (
+        b"A",
+        &[3],
+        &[(b"A", b"EXTENDS B"), (b"B", b"EXTENDS C"), (b"C", b"")],
+        Want::Loads(b"C B A "),
+    ),
+    (
+        b"A",
+        &[3],
+        &[
+            (b"A", b"EXTENDS B, C"),
+            (b"B", b"EXTENDS D"),
+            (b"C", b"EXTENDS D"),
+            (b"D", b""),
+        ],
+        Want::ReadFault,
+    ),
+    (
+        b"A",
+        &[4],
+        &[
+            (b"A", b"EXTENDS B, C"),
+            (b"B", b"EXTENDS D"),
+            (b"C", b"EXTENDS D"),
+            (b"D", b""),
+        ],
+        Want::Loads(b"D B C A "),
+    ),
 ];
 
 /// The text of a module.
@@ -95,26 +305,24 @@ fn names_of(alloc: Global, loaded: &Loaded) -> Result<Vec<u8>, Fail> {
 /// Whether a loading ends so.
 fn is_wanted(alloc: Global, ended: &Result<Loaded, LoadFault>, want: &Want) -> Result<bool, Fail> {
     match (ended, want) {
-        (Ok(loaded), Want::Loads(names)) => {
-            Ok(names_of(alloc, loaded)?.as_slice() == *names)
-        }
+        (Ok(loaded), Want::Loads(names)) => { Ok(names_of(alloc, loaded)?.as_slice() == *names) }
         (Err(LoadFault::NotFound(found)), Want::NotFound(name)) => Ok(found.bytes() == *name),
         (Err(LoadFault::ReadFault), Want::ReadFault) => Ok(true),
         (
-            Err(LoadFault::Refused {
-                module,
-                place,
-                kind,
-            }),
+            Err(
+                LoadFault::Refused {
+                    module,
+                    place,
+                    kind,
+                },
+            ),
             Want::Refused(name, line, column, text),
         ) => {
             let at = Place {
                 line: *line,
                 column: *column,
             };
-            Ok(module.bytes() == *name
-                && *place == at
-                && kind.text(alloc)?.bytes() == *text)
+            Ok(module.bytes() == *name && *place == at && kind.text(alloc)?.bytes() == *text)
         }
         _ => Ok(false),
     }
@@ -136,7 +344,10 @@ fn shelves(rt: HostRuntime) -> Result<(), Fail> {
         let mut shelf = shelf_of(alloc, entries, fails)?;
         let root = Text::of(alloc, root)?;
         let ended = load(alloc, &mut shelf, &root, None);
-        assert!(rt; is_wanted(alloc, &ended, want)?, "{entries:?} {want:?} {ended:?}");
+        assert!(rt;
+            is_wanted(alloc, &ended, want)?,
+            "{entries:?} {want:?} {ended:?}"
+        );
     }
     Ok(())
 }
@@ -147,14 +358,22 @@ const GIVEN: [(&[u8], &[u64], Want); 6] = [
     (b"EXTENDS B", &[], Want::Loads(b"B A ")),
     (b"EXTENDS B", &[0], Want::ReadFault),
     (b"EXTENDS C", &[], Want::Refused(b"C", 2, 9, b"Cycle A")),
-    (b"---- MODULE B ----\n====", &[], Want::Refused(b"A", 1, 1, b"NameMismatch")),
+    (
+        b"---- MODULE B ----\n====",
+        &[],
+        Want::Refused(b"A", 1, 1, b"NameMismatch"),
+    ),
     (b"CONSTANT", &[], Want::Refused(b"A", 3, 1, b"Expected")),
 ];
 
 #[test]
 fn given_roots(rt: HostRuntime) -> Result<(), Fail> {
     let alloc = rt.alloc();
-    let entries: [Entry; 3] = [(b"A", b"EXTENDS Missing"), (b"B", b""), (b"C", b"EXTENDS A")];
+    let entries: [Entry; 3] = [
+        (b"A", b"EXTENDS Missing"),
+        (b"B", b""),
+        (b"C", b"EXTENDS A"),
+    ];
     for (body, fails, want) in GIVEN.iter() {
         let mut shelf = shelf_of(alloc, &entries, fails)?;
         let root = Text::of(alloc, b"A")?;
