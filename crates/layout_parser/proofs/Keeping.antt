@@ -120,7 +120,7 @@ by-choice ts true p q some none = some refl
 by-choice ts false p q some none = none refl
 
 module _ (left : ℕ) (inner : ChainReader) (keeps : (n : ℕ) (s : Setting) (waits : Bool) (ts : Tokens) → Ends ts → ChainKept ts (inner n s waits ts)) where
-  part-keeps : (s : Setting) → Keeping (rule.part left inner s)
+  pub part-keeps : (s : Setting) → Keeping (rule.part left inner s)
   unfolding rule.part
   part-keeps s = record { at = λ ts h. finished-kept ts (inner (length ts) s true ts) (keeps (length ts) s true ts h) }
 
@@ -337,15 +337,15 @@ module _ (left : ℕ) (inner : ChainReader) (keeps : (n : ℕ) (s : Setting) (wa
 
   -- ---- bound names
 
-  bound-set-keeps : (s : Setting) (ns : List Decl) → Keeping (rule.bound_set left inner s ns)
+  pub bound-set-keeps : (s : Setting) (ns : List Decl) → Keeping (rule.bound_set left inner s ns)
   unfolding rule.bound_set
   bound-set-keeps s ns = then-keeps (expect-keeps may s stop.Other m.Belongs refl) (λ _. then-keeps (part-keeps s) (λ x. pure-keeps))
 
-  bound-keeps : (s : Setting) → Keeping (rule.bound left inner s)
+  pub bound-keeps : (s : Setting) → Keeping (rule.bound left inner s)
   unfolding rule.bound
   bound-keeps s = then-keeps (names-keeps may s stop.Bound) (bound-set-keeps s)
 
-  bounds-keeps : (s : Setting) (ns : List Decl) → Keeping (rule.bounds left inner s ns)
+  pub bounds-keeps : (s : Setting) (ns : List Decl) → Keeping (rule.bounds left inner s ns)
   unfolding rule.bounds
   bounds-keeps s ns = then-keeps (bound-set-keeps s ns) (λ g. then-keeps (eat-keeps may s m.Comma refl) (λ b. if-keeps b
       (gathered-keeps may put_last (g ∷ []) (eat-keeps may s m.Comma refl) (bound-keeps s)) (pure-keeps {a = g ∷ []})))
@@ -404,12 +404,12 @@ module _ (left : ℕ) (inner : ChainReader) (keeps : (n : ℕ) (s : Setting) (wa
   unfolding rule.cases
   cases-kept s ts h o = then-kept (take-kept ts h o) (λ place. then-keeps (arms-keeps s) (case-end-keeps s place))
 
-  parameters-kept : (s : Setting) (ts : Tokens) → Ends ts → Opens ts → Kept is_of_expressions ts (rule.parameters left inner s ts)
+  pub parameters-kept : (s : Setting) (ts : Tokens) → Ends ts → Opens ts → Kept is_of_expressions ts (rule.parameters left inner s ts)
   unfolding rule.parameters
   parameters-kept s ts h o = then-kept (opening-kept may left ts h o) (λ _. then-keeps (names-keeps may (within around.Other s) stop.Other)
       (λ ds. then-keeps (expect-keeps may (within around.Other s) stop.Parameter m.CloseParen refl) (λ _. pure-keeps)))
 
-  head-keeps : (s : Setting) → Keeping (rule.head left inner s)
+  pub head-keeps : (s : Setting) → Keeping (rule.head left inner s)
   unfolding rule.head
   head-keeps s = record {
     at = λ ts h. if-kept {b = sees s m.OpenParen ts}
@@ -540,7 +540,7 @@ module _ (left : ℕ) (inner : ChainReader) (keeps : (n : ℕ) (s : Setting) (wa
   chain-kept zero s false ts h = record { placed = tt; end = stays ts h }
   chain-kept (suc n) s waits ts h = joined-kept ts (rule.step left inner s waits ts) (rule.chain_from left inner n s) (step-kept s waits ts h) (λ opens us k. chain-kept n s opens us k)
 
-nested-kept : (left n : ℕ) (s : Setting) (waits : Bool) (ts : Tokens) → Ends ts → ChainKept ts (nested left n s waits ts)
+pub nested-kept : (left n : ℕ) (s : Setting) (waits : Bool) (ts : Tokens) → Ends ts → ChainKept ts (nested left n s waits ts)
 unfolding nested
 nested-kept zero n s waits ts h = record { placed = tt; end = too-deep-in may s ts h }
 nested-kept (suc left) n s waits ts h = chain-kept left (nested left) (nested-kept left) n s waits ts h

@@ -64,10 +64,10 @@ puts-arms found [] = sym (append-nil found)
 puts-arms found (a ∷ more) = puts-arms (with_arm found a) more ∙ append_assoc found (a.0 ∷ a.1 ∷ []) (spell.arm_parts more)
 
 -- names have been read
-abbrev Named : Setting → List Decl → Tokens → Tokens → Type 0
+abbrev pub Named : Setting → List Decl → Tokens → Tokens → Type 0
 Named s ns ts rest = ListRead s.region s.has_at (λ ds. ds) (λ d. spell.declared d ∷ []) spell.comma ns ts rest
 
-names-read : (s : Setting) (before : Stop) (ts : Tokens) (ns : List Decl) (rest : Tokens) → names s before ts ≡ Ok (ns, rest) → Named s ns ts rest
+pub names-read : (s : Setting) (before : Stop) (ts : Tokens) (ns : List Decl) (rest : Tokens) → names s before ts ≡ Ok (ns, rest) → Named s ns ts rest
 names-read s before = list-read s.region s.has_at put_last (λ d. d) (λ d. spell.declared d ∷ []) spell.comma (eat s m.Comma) (declared s before)
     (λ us mid d f. record { item = d; is = refl; read = on-declared s before f nothing }) (mark-separates s m.Comma refl) [] (λ ds. ds) (puts-same [])
 
@@ -89,7 +89,7 @@ module _ (left : ℕ) (inner : ChainReader) (law : OneRightTree) (good : Good in
   unfolding part
   on-part s {ts = ts} inside e r = on-finished law s (inner (length ts) s true ts) inside e (λ xs us is. full (length ts) s ts us xs (le (length ts)) is) r
 
-  on-same : (s : Setting) {ts mid rest : Tokens} {x : Node} {ys : Symbols} → part left inner s ts ≡ Ok (x, mid)
+  pub on-same : (s : Setting) {ts mid rest : Tokens} {x : Node} {ys : Symbols} → part left inner s ts ≡ Ok (x, mid)
       → Read s.region s.has_at mid rest ys → Read s.region s.has_at ts rest (same s.region s.has_at x ∷ ys)
   on-same s e r = on-part s (le s.region) e r
 
@@ -365,7 +365,7 @@ module _ (left : ℕ) (inner : ChainReader) (law : OneRightTree) (good : Good in
 
   -- ---- bound names
 
-  bound-set : (s : Setting) (ns : List Decl) (ts : Tokens) (g : Group) (rest : Tokens) → rule.bound_set left inner s ns ts ≡ Ok (g, rest)
+  pub bound-set : (s : Setting) (ns : List Decl) (ts : Tokens) (g : Group) (rest : Tokens) → rule.bound_set left inner s ns ts ≡ Ok (g, rest)
       → (x : Node) × (g ≡ rule.group ns (Some x)) × Read s.region s.has_at ts rest (sign m.Belongs ∷ same s.region s.has_at x ∷ [])
   unfolding rule.bound_set
   bound-set s ns ts g rest e = eaten s stop.Other m.Belongs _ refl e (λ belongs f1. got {o = part left inner s (next ts)} f1 (λ x t2 e2 f2. let z = same-end (rule.group ns (Some x)) g t2 rest f2 in
@@ -377,14 +377,14 @@ module _ (left : ℕ) (inner : ChainReader) (law : OneRightTree) (good : Good in
   with-set s ns ts t1 g rest h e = let b = bound-set s ns t1 g rest e in
       record { item = (h.head, h.tail, b.0); is = b.1 ∙ ap (λ l. rule.group l (Some b.0)) h.are; read = both h.read b.2 }
 
-  bound : (s : Setting) (ts mid : Tokens) (g : Group) → rule.bound left inner s ts ≡ Ok (g, mid) → ItemRead s.region s.has_at spell.group_of (spell.bound s.region s.has_at) g ts mid
+  pub bound : (s : Setting) (ts mid : Tokens) (g : Group) → rule.bound left inner s ts ≡ Ok (g, mid) → ItemRead s.region s.has_at spell.group_of (spell.bound s.region s.has_at) g ts mid
   unfolding rule.bound
   bound s ts mid g e = got {o = names s stop.Bound ts} e (λ ns t1 e1 f1. with-set s ns ts t1 g mid (names-read s stop.Bound ts ns t1 e1) f1)
 
   abbrev Bounded : Setting → List Group → Tokens → Tokens → Type 0
   Bounded s gs ts rest = ListRead s.region s.has_at (map spell.group_of) (spell.bound s.region s.has_at) spell.comma gs ts rest
 
-  bounds : (s : Setting) (ns : List Decl) (ts t1 : Tokens) (gs : List Group) (rest : Tokens) → Named s ns ts t1 → rule.bounds left inner s ns t1 ≡ Ok (gs, rest) → Bounded s gs ts rest
+  pub bounds : (s : Setting) (ns : List Decl) (ts t1 : Tokens) (gs : List Group) (rest : Tokens) → Named s ns ts t1 → rule.bounds left inner s ns t1 ≡ Ok (gs, rest) → Bounded s gs ts rest
   unfolding rule.bounds
   bounds s ns ts t1 gs rest h e = got {o = rule.bound_set left inner s ns t1} e (λ g t2 e2 f2. let one = with-set s ns ts t1 g t2 h e2 in by-reader {b = sees s m.Comma t2} (rule.further_bounds left inner s (g ∷ [])) _ f2
       (λ comma f3. let z = list-read s.region s.has_at put_last spell.group_of (spell.bound s.region s.has_at) spell.comma (eat s m.Comma) (rule.bound left inner s) (bound s) (mark-separates s m.Comma refl)
@@ -454,14 +454,14 @@ module _ (left : ℕ) (inner : ChainReader) (law : OneRightTree) (good : Good in
 
   -- ---- LET
 
-  parameters : (s : Setting) (ts : Tokens) (ds : List Decl) (rest : Tokens) → Stands s.region m.OpenParen ts → rule.parameters left inner s ts ≡ Ok (ds, rest)
+  pub parameters : (s : Setting) (ts : Tokens) (ds : List Decl) (rest : Tokens) → Stands s.region m.OpenParen ts → rule.parameters left inner s ts ≡ Ok (ds, rest)
       → Read s.region s.has_at ts rest (spell.parameters ds)
   unfolding rule.parameters
   parameters s ts ds rest at e = begun left _ _ e (λ f0. got {o = names (within around.Other s) stop.Other (next ts)} f0 (λ xs t1 e1 f1. let h = names-read (within around.Other s) stop.Other (next ts) xs t1 e1 in
       eaten (within around.Other s) stop.Parameter m.CloseParen _ refl f1 (λ close f2. let z = same-end xs ds _ rest f2 in
       subst (λ l. Read s.region s.has_at ts rest (spell.parameters l)) (sym h.are ∙ z.0) (on-sign at (both h.read (on-sign close (up-to z.1 nothing)))))))
 
-  head : (s : Setting) (ts : Tokens) (ds : List Decl) (rest : Tokens) → rule.head left inner s ts ≡ Ok (ds, rest) → Read s.region s.has_at ts rest (spell.parameters ds ++ sign m.Defines ∷ [])
+  pub head : (s : Setting) (ts : Tokens) (ds : List Decl) (rest : Tokens) → rule.head left inner s ts ≡ Ok (ds, rest) → Read s.region s.has_at ts rest (spell.parameters ds ++ sign m.Defines ∷ [])
   unfolding rule.head
   head s ts ds rest e = by-test {b = sees s m.OpenParen ts} e
       (λ paren e1. got {o = rule.parameters left inner s ts} e1 (λ xs t2 e2 f2. eaten s stop.Other m.Defines _ refl f2 (λ defines f3. let z = same-end xs ds _ rest f3 in

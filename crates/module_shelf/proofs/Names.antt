@@ -3,18 +3,14 @@ use Rattle.std.proofs.Common.{◌≡◌, ℕ, ◌<◌, ◌&&◌, Bool, true, fal
 use Rattle.std.specs.List.{All, list_all, list_any}
 use Rattle.std.specs.Char.{is_ascii_alphabetic}
 use Rattle.std.specs.Str.{IsUtf8}
-use Rattle.std.proofs.lemmas.Bool.{and_parts, ltb-true, ltb-false, lt-ltb}
-use Rattle.std.proofs.lemmas.List.{length-take-le, take_all}
+use Rattle.std.proofs.lemmas.Bool.{and_parts}
 use Rattle.std.proofs.lemmas.Str.{IsUtf8-from_ascii}
 use Rattle.std.proofs.lemmas.Str.Ascii.{IsAscii-from_all}
 use Rattle.std.proofs.lemmas.Grind.{common_steps}
 use Rattle.tla_ast.specs.Word.{is_word_byte, is_identifier}
 use Rattle.tla_ast.specs.Answers.{and_then}
 use Rattle.tla_ast.specs.declared.token.Tokens.{Tokens}
-use Rattle.tla_ast.specs.declared.fault.Fault.TheVariants as fault
-use Rattle.tla_ast.specs.declared.fault.Kind.TheVariants.{TooLong}
-use Rattle.tla_lexer.specs.Place.{first}
-use Rattle.tla_lexer.specs.Tokens.{tokens}
+use Rattle.tla_lexer.proofs.Tokens.{front-tokens}
 use Rattle.proof_parser.specs.Modules.{module_of}
 use Rattle.module_shelf.specs.Loading.{named, module_in}
 
@@ -29,20 +25,6 @@ pub identifier_is_text : (name : List ℕ) → is_identifier name ≡ true → I
 identifier_is_text name h =
     let p = and_parts (list_all is_word_byte name && list_any is_ascii_alphabetic name) _ (and_parts _ _ h).0 in
     IsUtf8-from_ascii name (IsAscii-from_all name (word-bytes name (and_parts (list_all is_word_byte name) (list_any is_ascii_alphabetic name) p.0).0))
-
-too-long : (bytes : List ℕ) → 1048576 < length bytes → tokens bytes ≡ Err (fault.At first TooLong)
-unfolding tokens
-too-long bytes h = rw (lt-ltb 1048576 (length bytes) h) refl
-
-front-tokens : (most : ℕ) (bytes : List ℕ) → 1048576 < most → tokens (take most bytes) ≡ tokens bytes
-front-tokens most bytes h = go (nat_lt most (length bytes)) refl
-  where
-    go : (b : Bool) → nat_lt most (length bytes) ≡ b → tokens (take most bytes) ≡ tokens bytes
-    go true e =
-        let over : most < length bytes = ltb-true most (length bytes) e in
-        let long : length (take most bytes) ≡ most = length-take-le most bytes (omega (arith, over)) in
-        too-long (take most bytes) (omega (arith, h, long)) ∙ sym (too-long bytes (omega (arith, h, over)))
-    go false e = ap tokens (take_all most bytes (ltb-false most (length bytes) e))
 
 -- a text's front of more than 1048576 bytes is read as the whole text
 pub front-module : (most : ℕ) (name bytes : List ℕ) → 1048576 < most → module_in name (take most bytes) ≡ module_in name bytes

@@ -1,7 +1,8 @@
 -- Which modules are loaded, or why the loading stops.
-use Rattle.std.specs.Prelude.{ℕ, zero, suc, ◌+◌, Bool, true, false, if◌then◌else◌, nat_le, List, [], ◌∷◌, ◌++◌, length, map, Option, Some, None, Result, Ok, Err, codes}
+use Rattle.std.specs.Prelude.{ℕ, zero, suc, ◌+◌, Bool, true, false, if◌then◌else◌, nat_le, List, [], ◌∷◌, ◌++◌, length, map, Option, Some, None, Result, Ok, Err}
 use Rattle.std.specs.Str.{bytes_eq}
 use Rattle.tla_io.specs.Told.{Bytes, Folder}
+use Rattle.std_names.specs.Libraries.{is_library}
 use Rattle.tla_lexer.specs.Tokens.{tokens}
 use Rattle.tla_ast.specs.Answers.{and_then}
 use Rattle.tla_ast.specs.Word.{is_among, is_identifier}
@@ -69,13 +70,6 @@ root_module None folder root = module_under folder root
 root_module (Some text) folder root = read_text root text
 
 -- ---- the walk
-
--- the library modules
-unfoldable pub libraries : List Text
-libraries = codes "Naturals" ∷ codes "Integers" ∷ codes "Sequences" ∷ codes "FiniteSets" ∷ codes "TLAPS" ∷ []
-
-abbrev pub is_library : Text → Bool
-is_library name = is_among libraries name
 
 -- An extended name, with its place in the module `inside`, where these names stand on the path from the root (`inside` is the
 -- last) and these modules are complete: whether it has still to be loaded. A library's name means the library. A name on the path

@@ -4,7 +4,8 @@ use Rattle.std.specs.List.{All}
 use Rattle.tla_ast.specs.Word.{is_among}
 use Rattle.tla_ast.specs.declared.place.Place.{Place}
 use Rattle.tla_ast.specs.declared.unit.Module.{Module}
-use Rattle.module_shelf.specs.Loading.{Text, is_library, names}
+use Rattle.std_names.specs.Libraries.{is_library}
+use Rattle.module_shelf.specs.Loading.{Text, names}
 
 -- an extended name means a library module, or one of these
 abbrev pub IsMet : List Module → Text × Place → Type 0

@@ -11,7 +11,8 @@ use crate::read::{fetch_module, refused};
 use core_expr::Text;
 use sqlite_items::Items;
 use std::alloc::Global;
-use tla_ast::{Fault, Kind, MOST_MODULES, Module, Place, is_among};
+use std_names::is_library;
+use tla_ast::{Fault, Kind, MOST_MODULES, Module, Place};
 use tla_io::Shelf;
 
 /// A walk: the names on the path from the root to where it stands, and the modules that are complete.
@@ -19,23 +20,6 @@ use tla_io::Shelf;
 pub struct Walk {
     pub path: Items<Text>,
     pub complete: Items<Module>,
-}
-
-/// The names of the library modules.
-const LIBRARIES: [&[u8]; 5] = [
-    b"Naturals",
-    b"Integers",
-    b"Sequences",
-    b"FiniteSets",
-    b"TLAPS",
-];
-
-/// Whether a library module has this name.
-#[tactic(auto, unfolding(crate::specs::Loading::libraries))]
-fn is_library(name: &[u8]) -> bool
-    ensures { result ≡ spec.is_library name.now }
-{
-    is_among(&LIBRARIES, name)
 }
 
 /// Whether a name is one of these.

@@ -1,15 +1,12 @@
 -- From the tokens to what a text says.
-use Rattle.std.proofs.Common.{◌≡◌, ℕ, ◌<◌, ◌∙◌, Bool, true, false, nat_lt, length, take, arith, List, [], map, flat_map, fold, Some, None, Result, Ok, Err, refl, sym, ap, subst}
+use Rattle.std.proofs.Common.{◌≡◌, ℕ, ◌<◌, ◌∙◌, Bool, true, false, take, List, [], map, flat_map, fold, Some, None, Result, Ok, Err, refl, sym, ap, subst}
 use Rattle.std.specs.Result.{IsErrAnd}
 use Rattle.std.specs.Str.{bytes_eq}
 use Rattle.tla_ast.specs.declared.place.Place.{Place}
 use Rattle.tla_ast.specs.declared.token.Tokens.{Tokens}
-use Rattle.std.proofs.lemmas.Bool.{ltb-true, ltb-false, lt-ltb}
-use Rattle.std.proofs.lemmas.List.{length-take-le, take_all}
-use Rattle.tla_ast.specs.declared.fault.Kind.TheVariants.{TooLong}
-use Rattle.tla_lexer.specs.Place.{first}
 use Rattle.tla_lexer.specs.Signs.{Text}
 use Rattle.tla_lexer.specs.Tokens.{tokens}
+use Rattle.tla_lexer.proofs.Tokens.{front-tokens}
 use Rattle.tla_ast.specs.declared.fault.Fault.{Fault}
 use Rattle.tla_ast.specs.declared.fault.Fault.TheVariants as fault
 use Rattle.propositional_module.specs.declared.theorem.PropositionalModule.{PropositionalModule}
@@ -67,20 +64,6 @@ unfolding module_of units_of
 by-units bytes name ts u e g h = rw (e, g, h) refl
 
 -- ---- a front of the text
-
-too-long : (bytes : Text) → 1048576 < length bytes → tokens bytes ≡ Err (fault.At first TooLong)
-unfolding tokens
-too-long bytes h = rw (lt-ltb 1048576 (length bytes) h) refl
-
-front-tokens : (most : ℕ) (bytes : Text) → 1048576 < most → tokens (take most bytes) ≡ tokens bytes
-front-tokens most bytes h = go (nat_lt most (length bytes)) refl
-  where
-    go : (b : Bool) → nat_lt most (length bytes) ≡ b → tokens (take most bytes) ≡ tokens bytes
-    go true e =
-        let over : most < length bytes = ltb-true most (length bytes) e in
-        let long : length (take most bytes) ≡ most = length-take-le most bytes (omega (arith, over)) in
-        too-long (take most bytes) (omega (arith, h, long)) ∙ sym (too-long bytes (omega (arith, h, over)))
-    go false e = ap tokens (take_all most bytes (ltb-false most (length bytes) e))
 
 pub front-module : (most : ℕ) (bytes name : Text) → 1048576 < most → module_of (take most bytes) name ≡ module_of bytes name
 unfolding module_of units_of

@@ -1,6 +1,7 @@
 -- The names that the library modules give.
-use Rattle.std.specs.Prelude.{ℕ, if◌then◌else◌, ◌&&◌, nat_eq, List, [], ◌∷◌, Option, Some, None, codes}
+use Rattle.std.specs.Prelude.{ℕ, Bool, if◌then◌else◌, ◌&&◌, nat_eq, List, [], ◌∷◌, Option, Some, None, codes}
 use Rattle.std.specs.Cmp.Lexicographic.{pointwise}
+use Rattle.std.specs.List.{list_any}
 
 -- module, name, arity
 abbrev pub Row : Type 0
@@ -42,6 +43,14 @@ names =
     (codes "TLAPS", codes "Isa", 0) ∷
     (codes "TLAPS", codes "Z3", 0) ∷
     (codes "TLAPS", codes "PTL", 0) ∷ []
+
+-- whether one of these rows is of this module
+abbrev pub has_row : List Row → List ℕ → Bool
+has_row rows owner = list_any (λ r. pointwise nat_eq r.0 owner) rows
+
+-- whether a library module has this name
+unfoldable pub is_library : List ℕ → Bool
+is_library owner = has_row names owner
 
 -- the arity in the first row with this module and this name
 abbrev pub arity_in : List Row → List ℕ → List ℕ → Option ℕ

@@ -7,7 +7,7 @@
 mod libraries;
 mod operators;
 
-pub use libraries::library;
+pub use libraries::{is_library, library};
 pub use operators::{Fix, operator};
 
 #[cfg(test)]

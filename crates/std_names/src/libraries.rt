@@ -56,3 +56,22 @@ pub fn library(module: &[u8], name: &[u8]) -> Option<u64>
 {
     arity_in(&NAMES, module, name)
 }
+
+fn has_row(table: &[(&[u8], &[u8], u64)], module: &[u8]) -> bool
+    ensures { result ≡ spec.has_row (map (λ r. (r.0.now, r.1.now, r.2)) table.now) «module».now }
+{
+    for row in table {
+        if row.0 == module {
+            return true;
+        }
+    }
+    false
+}
+
+/// Whether a library module has this name: Naturals, Integers, Sequences, FiniteSets and TLAPS have.
+#[tactic(auto, unfolding(crate::specs::Libraries::is_library, crate::specs::Libraries::names))]
+pub fn is_library(module: &[u8]) -> bool
+    ensures { result ≡ spec.is_library «module».now }
+{
+    has_row(&NAMES, module)
+}

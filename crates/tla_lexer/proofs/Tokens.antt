@@ -1,7 +1,7 @@
 -- The tokens at a place of the bytes.
-use Rattle.std.proofs.Common.{◌≡◌, ℕ, zero, suc, ◌+◌, ◌-◌, ◌<◌, ◌≤◌, List, [], ◌∷◌, ◌++◌, length, take, drop, Ok, Err, refl, sym, subst, ap, ◌∙◌, arith, length-drop, length-take, append_assoc}
-use Rattle.std.proofs.lemmas.List.{take_rest, drop-drop}
-use Rattle.std.proofs.lemmas.Bool.{lt-ltb, le-ltb, cond-true, cond-false}
+use Rattle.std.proofs.Common.{◌≡◌, ℕ, zero, suc, ◌+◌, ◌-◌, ◌<◌, ◌≤◌, Bool, true, false, nat_lt, List, [], ◌∷◌, ◌++◌, length, take, drop, Ok, Err, refl, sym, subst, ap, ◌∙◌, arith, length-drop, length-take, append_assoc}
+use Rattle.std.proofs.lemmas.List.{take_rest, drop-drop, length-take-le, take_all}
+use Rattle.std.proofs.lemmas.Bool.{ltb-true, ltb-false, lt-ltb, le-ltb, cond-true, cond-false}
 use Rattle.tla_ast.specs.declared.place.Place.{Place}
 use Rattle.tla_ast.specs.declared.token.Token.{Token}
 use Rattle.tla_ast.specs.declared.token.Tok.{Tok}
@@ -108,6 +108,17 @@ answers-headed name header (Err x) f e = λ h. ap (headed name header) (e h)
 pub too-long : (bytes : Text) → MOST_BYTES < length bytes → tokens bytes ≡ Err (fault.At first TooLong)
 unfolding tokens
 too-long bytes h = cond-true _ _ _ (lt-ltb MOST_BYTES (length bytes) h)
+
+-- a front of the text that is too long itself is read as the whole text
+pub front-tokens : (most : ℕ) (bytes : Text) → MOST_BYTES < most → tokens (take most bytes) ≡ tokens bytes
+front-tokens most bytes h = go (nat_lt most (length bytes)) refl
+  where
+    go : (b : Bool) → nat_lt most (length bytes) ≡ b → tokens (take most bytes) ≡ tokens bytes
+    go true e =
+        let over : most < length bytes = ltb-true most (length bytes) e in
+        let long : length (take most bytes) ≡ most = length-take-le most bytes (omega (arith, over)) in
+        too-long (take most bytes) (omega (arith, h, long)) ∙ sym (too-long bytes (omega (arith, h, over)))
+    go false e = ap tokens (take_all most bytes (ltb-false most (length bytes) e))
 
 pub by-header : (bytes : Text) → length bytes ≤ MOST_BYTES → tokens bytes ≡ tokens_by bytes (find bytes)
 unfolding tokens
