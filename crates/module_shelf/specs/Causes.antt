@@ -1,9 +1,7 @@
 -- How a loading ends, by its answer.
-use Rattle.std.specs.Prelude.{◌≡◌, ℕ, ◌≤◌, List, Option, Some, None, Ok, Err}
+use Rattle.std.specs.Prelude.{◌≡◌, ℕ, ◌≤◌, Option, Some, None, Ok, Err}
 use Rattle.tla_io.specs.Causes.{Rose}
 use Rattle.tla_io.specs.Told.{Folder}
-use Rattle.tla_ast.specs.declared.unit.Module.{Module}
-use Rattle.tla_ast.specs.declared.unit.Loaded.{Loaded}
 use Rattle.module_shelf.specs.Loading.{Outcome}
 use Rattle.module_shelf.specs.declared.fault.LoadFault.{LoadFault}
 use Rattle.module_shelf.specs.declared.fault.LoadFault.TheVariants as load
@@ -20,20 +18,10 @@ Stops load.Memory defined = Unit {0}
 Stops (load.NotFound name) defined = defined ≡ Err (load.NotFound name)
 Stops (load.Refused owner place kind) defined = defined ≡ Err (load.Refused owner place kind)
 
--- the value is the one that is defined, and where the answer is a fault, the loading stops so
-abbrev pub EndsWith : {T A : Type 0} → Outcome T → A → Outcome A → Type 0
-EndsWith (Ok x) value defined = defined ≡ Ok value
-EndsWith (Err e) value defined = Stops e defined
-
--- the same of the answer's own value
-abbrev pub Ends : {A : Type 0} → Outcome A → Outcome A → Type 0
-Ends (Ok a) defined = defined ≡ Ok a
-Ends (Err e) defined = Stops e defined
-
--- the same of the modules that are loaded
-abbrev pub Loads : Outcome Loaded → Outcome (List Module) → Type 0
-Loads (Ok loaded) defined = defined ≡ Ok loaded.modules
-Loads (Err e) defined = Stops e defined
+-- the answer's value, seen so, is the one that is defined, and where the answer is a fault, the loading stops so
+abbrev pub Ends : {T A : Type 0} → (T → A) → Outcome T → Outcome A → Type 0
+Ends view (Ok x) defined = defined ≡ Ok (view x)
+Ends view (Err e) defined = Stops e defined
 
 -- the shelf's count rose for a read fault, and else it stays
 abbrev pub FaultCause : LoadFault → ℕ → ℕ → Type 0
@@ -45,11 +33,13 @@ abbrev pub LoadCause : {T : Type 0} → Outcome T → ℕ → ℕ → Type 0
 LoadCause (Ok x) before now = now ≡ before
 LoadCause (Err e) before now = FaultCause e before now
 
-abbrev pub IsNoReadFault : LoadFault → Type 0
-IsNoReadFault load.ReadFault = ⊥
-IsNoReadFault _ = Unit {0}
+-- what is seen of a shelf: the folder, where it tells it, and its count
+abbrev pub Seen : Type 0
+Seen = Option Folder × ℕ
 
--- the answer is no read fault
-abbrev pub NoReadFault : {T : Type 0} → Outcome T → Type 0
-NoReadFault (Ok x) = Unit {0}
-NoReadFault (Err e) = IsNoReadFault e
+-- what a call that loads from a shelf answers: what is defined for the folder that is told, with the cause of a fault; the shelf
+-- tells the same folder after it
+pub record Loads {T A : Type 0} (r : Outcome T) (view : T → A) (defined : Folder → Outcome A) (before now : Seen) : Type 0 where
+  pub told : (folder : Folder) → before.0 ≡ Some folder → Ends view r (defined folder)
+  pub cause : LoadCause r before.1 now.1
+  pub kept : now.0 ≡ before.0

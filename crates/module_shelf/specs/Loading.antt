@@ -1,5 +1,6 @@
 -- Which modules are loaded, or why the loading stops.
-use Rattle.std.specs.Prelude.{ℕ, zero, suc, ◌+◌, Bool, true, false, if◌then◌else◌, nat_le, List, [], ◌∷◌, ◌++◌, length, map, Option, Some, None, Result, Ok, Err}
+use Rattle.std.specs.Prelude.{ℕ, zero, suc, ◌+◌, Bool, true, false, if◌then◌else◌, nat_le, List, [], ◌∷◌, ◌++◌, length, Option, Some, None, Result, Ok, Err}
+use Rattle.std.specs.List.{list_any}
 use Rattle.std.specs.Str.{bytes_eq}
 use Rattle.tla_io.specs.Told.{Bytes, Folder}
 use Rattle.std_names.specs.Libraries.{is_library}
@@ -28,9 +29,9 @@ abbrev pub followed : {A B : Type 0} → Outcome A → (A → Outcome B) → Out
 followed (Ok a) next = next a
 followed (Err e) next = Err e
 
--- the names of modules
-abbrev pub names : List Module → List Text
-names ms = map (λ m. m.name) ms
+-- one of these modules has this name
+abbrev pub has : List Module → Text → Bool
+has ms name = list_any (λ m. bytes_eq m.name name) ms
 
 -- ---- one module
 
@@ -52,22 +53,15 @@ abbrev pub read_as : Text → Result Module Fault → Outcome Module
 read_as name (Ok m) = Ok m
 read_as name (Err e) = Err (refused name e)
 
-abbrev pub read_text : Text → Bytes → Outcome Module
-read_text name text = read_as name (module_in name text)
-
--- a text, or none, under this name
+-- the module of a text, or none, under this name
 abbrev pub module_at : Text → Option Bytes → Outcome Module
 module_at name None = Err (load.NotFound name)
-module_at name (Some text) = read_text name text
+module_at name (Some text) = read_as name (module_in name text)
 
--- what a folder has under this name: nothing under what is no identifier
-abbrev pub module_under : Folder → Text → Outcome Module
-module_under folder name = module_at name (if is_identifier name then folder name else None)
-
--- the root, of the text that is given, or else of the folder's
-abbrev pub root_module : Option Bytes → Folder → Text → Outcome Module
-root_module None folder root = module_under folder root
-root_module (Some text) folder root = read_text root text
+-- the module of a name, of the text that is given, or else of what a folder has under the name: nothing under what is no identifier
+abbrev pub find : Option Bytes → Folder → Text → Outcome Module
+find None folder name = module_at name (if is_identifier name then folder name else None)
+find (Some text) folder name = module_at name (Some text)
 
 -- ---- the walk
 
@@ -78,26 +72,17 @@ unfoldable pub asks : List Text → List Module → Text → Text × Place → O
 asks path done inside e =
     if is_library e.0 then Ok false
     else (if is_among path e.0 then Err (load.Refused inside e.1 (Cycle e.0))
-    else (if is_among (names done) e.0 then Ok false
+    else (if has done e.0 then Ok false
     else (if nat_le 64 (length path + length done) then Err (load.Refused inside e.1 TooMany) else Ok true)))
 
--- the module that is to be loaded next, where the name asks for one
-abbrev pub asked : Folder → Text → Bool → Outcome (Option Module)
-asked folder name false = Ok None
-asked folder name true = followed (module_under folder name) (λ m. Ok (Some m))
+-- the complete modules when this extended name was visited, whose module is completed where it asks for one
+abbrev pub visit : Folder → List Text → Text → (Module → List Module → Outcome (List Module)) → List Module → Text × Place → Outcome (List Module)
+visit folder path inside go done e = followed (asks path done inside e) (λ asked. if asked then followed (find None folder e.0) (λ m. go m done) else Ok done)
 
-abbrev pub next_module : Folder → List Text → Text → List Module → Text × Place → Outcome (Option Module)
-next_module folder path inside done e = followed (asks path done inside e) (asked folder e.0)
-
--- the complete modules behind the next one
-abbrev pub gone : (Module → List Module → Outcome (List Module)) → List Module → Option Module → Outcome (List Module)
-gone go done None = Ok done
-gone go done (Some next) = go next done
-
--- the complete modules when these extended names were visited, from left to right
-abbrev pub visited : (List Module → Text × Place → Outcome (Option Module)) → (Module → List Module → Outcome (List Module)) → List (Text × Place) → List Module → Outcome (List Module)
-visited next go [] done = Ok done
-visited next go (e ∷ es) done = followed (followed (next done e) (gone go done)) (visited next go es)
+-- the complete modules when these were visited, from left to right
+abbrev pub visited : (List Module → Text × Place → Outcome (List Module)) → List (Text × Place) → List Module → Outcome (List Module)
+visited visit [] done = Ok done
+visited visit (e ∷ es) done = followed (visit done e) (visited visit es)
 
 -- The complete modules when this module is complete, and before it all that it extends. So many modules may stand on a path from
 -- this one on; where none may, 64 stand on the path, and no name asks for a further one.
@@ -105,8 +90,8 @@ abbrev pub completed : ℕ → Folder → List Text → Module → List Module �
 completed zero folder path m done = Err (load.NotFound m.name)
 completed (suc n) folder path m done =
     let now = path ++ m.name ∷ [] in
-    followed (visited (next_module folder now m.name) (completed n folder now) m.extends done) (λ ms. Ok (ms ++ m ∷ []))
+    followed (visited (visit folder now m.name (completed n folder now)) m.extends done) (λ ms. Ok (ms ++ m ∷ []))
 
 -- the modules that are loaded, in the order in which they are complete; the root is the last
 unfoldable pub loading : Option Bytes → Folder → Text → Outcome (List Module)
-loading given folder root = followed (root_module given folder root) (λ m. completed 64 folder [] m [])
+loading given folder root = followed (find given folder root) (λ m. completed 64 folder [] m [])

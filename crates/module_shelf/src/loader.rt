@@ -1,65 +1,77 @@
 //! The walk over what modules extend.
 
-ghost use Rattle.std.specs.Prelude.{◌≡◌, ◌∷◌, ◌++◌, ◌-◌, [], false, OnOk, IfOk, length, option_map};
-ghost use Rattle.tla_ast.specs.Word.{is_among};
+ghost use Rattle.std.specs.Prelude.{◌≡◌, ◌∷◌, ◌++◌, ◌-◌, [], OnOk, IfOk, length, option_map};
 ghost use Rattle.module_shelf.specs.Loading as spec;
-ghost use Rattle.module_shelf.specs.Order.{Fine, Reached, IsOrdered};
-ghost use Rattle.module_shelf.specs.Causes.{Ends, EndsWith, Loads, LoadCause, WhereTold};
+ghost use Rattle.module_shelf.specs.Order.{Fine, MayBegin, Reached, Visited, IsOrdered};
+ghost use Rattle.module_shelf.specs.Causes.{Ends, Loads, LoadCause, WhereTold};
 
 use crate::fault::LoadFault;
-use crate::read::{fetch_module, read_text};
-use crate::walk::{Walk, next_module};
-use core_expr::Text;
+use crate::read::find_module;
+use crate::walk::asks;
+use core_expr::{Memory, Text};
 use sqlite_items::Items;
 use std::alloc::Global;
-use tla_ast::{Loaded, Module};
+use tla_ast::{Loaded, Module, Place};
 use tla_io::Shelf;
 
-/// Walks over what a module extends, from left to right and depth first; then the module is complete.
+/// The names with one more behind them.
+fn with_name(alloc: Global, path: &[Text], name: &Text) -> Result<Items<Text>, Memory>
+    ensures { IfOk result (λ all. all ≡ path.now ++ name.now ∷ []) }
+{
+    let mut all = Items::new(alloc);
+    for entry in path {
+        all.push(Text::of(alloc, entry.bytes())?)?;
+    }
+    all.push(Text::of(alloc, name.bytes())?)?;
+    Ok(all)
+}
+
+/// Visits a name that the module `inside` extends: where it asks for a module, that is fetched, read and completed.
+#[cycle(walk)]
+fn visit<S: Shelf>(
+    alloc: Global,
+    shelf: &mut S,
+    path: &[Text],
+    done: &mut Items<Module>,
+    inside: &Text,
+    extended: &(Text, Place),
+) -> Result<(), LoadFault>
+    requires { Fine path.now done.old }
+    ensures loads { Loads result (λ _. done.new) (λ folder. spec.visit folder path.now inside.now
+        (spec.completed (64 - length path.now) folder path.now) done.old extended.now)
+        (S.folder shelf.old, S.count shelf.old) (S.folder shelf.new, S.count shelf.new) }
+    ensures order { OnOk result (Visited path.now extended.now done.old done.new) }
+{
+    if !asks(alloc, path, done.as_slice(), inside, extended)? {
+        return Ok(());
+    }
+    let next = find_module(alloc, shelf, &extended.0, None)?;
+    complete(alloc, shelf, path, done, next)
+}
+
+/// Visits what a module extends, from left to right and depth first; then the module is complete.
+#[cycle(walk)]
 fn complete<S: Shelf>(
     alloc: Global,
     shelf: &mut S,
-    walk: &mut Walk,
+    path: &[Text],
+    done: &mut Items<Module>,
     module: Module,
 ) -> Result<(), LoadFault>
-    requires fine { Fine (walk.old.path ++ «module».name ∷ []) walk.old.complete }
-    requires off { is_among walk.old.path «module».name ≡ false }
-    ensures told { WhereTold (S.folder shelf.old) (λ folder. EndsWith result walk.new.complete
-        (spec.completed (64 - length walk.old.path) folder walk.old.path «module» walk.old.complete)) }
-    ensures path { OnOk result (walk.new.path ≡ walk.old.path) }
-    ensures order { OnOk result
-        (Reached walk.old.path «module» walk.old.complete walk.new.complete) }
-    ensures cause { LoadCause result (S.count shelf.old) (S.count shelf.new) }
-    ensures kept { S.folder shelf.new ≡ S.folder shelf.old }
+    requires fine { Fine path.now done.old }
+    requires begins { MayBegin path.now done.old «module».name }
+    ensures loads { Loads result (λ _. done.new) (λ folder. spec.completed
+        (64 - length path.now) folder path.now «module» done.old)
+        (S.folder shelf.old, S.count shelf.old) (S.folder shelf.new, S.count shelf.new) }
+    ensures order { OnOk result (Reached path.now «module» done.old done.new) }
 {
-    walk.path.push(Text::of(alloc, module.name.bytes())?)?;
+    let longer = with_name(alloc, path, &module.name)?;
+    let now = longer.as_slice();
     for extended in module.extends.as_slice() {
-        if let Some(next) = next_module(alloc, shelf, walk, &module.name, extended)? {
-            complete(alloc, shelf, walk, next)?;
-        }
+        visit(alloc, shelf, now, done, &module.name, extended)?;
     }
-    walk.path.pop();
-    walk.complete.push(module)?;
+    done.push(module)?;
     Ok(())
-}
-
-/// The root, from the text that is given or else from the shelf.
-fn root_module<S: Shelf>(
-    alloc: Global,
-    shelf: &mut S,
-    root: &Text,
-    given: Option<Vec<u8>>,
-) -> Result<Module, LoadFault>
-    ensures told { WhereTold (S.folder shelf.old)
-        (λ folder. Ends result (spec.root_module (option_map (λ v. v.items) given) folder root.now)) }
-    ensures name { IfOk result (λ m. m.name ≡ root.now) }
-    ensures cause { LoadCause result (S.count shelf.old) (S.count shelf.new) }
-    ensures kept { S.folder shelf.new ≡ S.folder shelf.old }
-{
-    match given {
-        Some(text) => read_text(alloc, root, text.as_slice()),
-        None => fetch_module(alloc, shelf, root),
-    }
 }
 
 /// Loads a module, and those that it extends, directly or through others.
@@ -75,19 +87,14 @@ pub fn load<S: Shelf>(
     root: &Text,
     given: Option<Vec<u8>>,
 ) -> Result<Loaded, LoadFault>
-    ensures told { WhereTold (S.folder shelf.old) (λ folder. Loads result
+    ensures told { WhereTold (S.folder shelf.old) (λ folder. Ends (λ loaded. loaded.modules) result
         (spec.loading (option_map (λ v. v.items) given) folder root.now)) }
     ensures order { IfOk result (λ loaded. IsOrdered root.now loaded.modules) }
     ensures cause { LoadCause result (S.count shelf.old) (S.count shelf.new) }
     ensures kept { S.folder shelf.new ≡ S.folder shelf.old }
 {
-    let module = root_module(alloc, shelf, root, given)?;
-    let mut walk = Walk {
-        path: Items::new(alloc),
-        complete: Items::new(alloc),
-    };
-    complete(alloc, shelf, &mut walk, module)?;
-    Ok(Loaded {
-        modules: walk.complete,
-    })
+    let module = find_module(alloc, shelf, root, given)?;
+    let mut modules = Items::new(alloc);
+    complete(alloc, shelf, &[], &mut modules, module)?;
+    Ok(Loaded { modules })
 }

@@ -1,10 +1,11 @@
 //! One module, from its text.
 
-ghost use Rattle.std.specs.Prelude.{◌≡◌, IfOk, MatchOption, true, false};
+ghost use Rattle.std.specs.Prelude.{◌≡◌, ◌≢◌, IfOk, IfErr, MatchOption, true, false, option_map};
 ghost use Rattle.tla_ast.specs.Answers.{Answers};
 ghost use Rattle.tla_ast.specs.Word.{is_identifier};
 ghost use Rattle.module_shelf.specs.Loading as spec;
-ghost use Rattle.module_shelf.specs.Causes.{Ends, LoadCause, NoReadFault, WhereTold};
+ghost use Rattle.module_shelf.specs.Causes.{Ends, Loads};
+ghost use Rattle.module_shelf.specs.declared.fault.LoadFault.TheVariants as load;
 
 use crate::fault::LoadFault;
 use core_expr::{Memory, Text};
@@ -48,13 +49,17 @@ pub fn refused(alloc: Global, module: &Text, fault: Fault) -> Result<LoadFault, 
     }
 }
 
-/// The module of a name that a text is read as, or the refusal of what stands under that name.
-pub fn read_text(alloc: Global, name: &Text, text: &[u8]) -> Result<Module, LoadFault>
-    ensures text { Ends result (spec.read_text name.now text.now) }
+/// The module of a name, from the text that stands under it, if one does.
+fn module_at(alloc: Global, name: &Text, text: Option<Vec<u8>>) -> Result<Module, LoadFault>
+    ensures text { Ends (λ m. m) result
+        (spec.module_at name.now (option_map (λ v. v.items) text)) }
     ensures name { IfOk result (λ m. m.name ≡ name.now) }
-    ensures never { NoReadFault result }
+    ensures never { IfErr result (λ e. e ≢ load.ReadFault) }
 {
-    match module_in(alloc, name, text) {
+    let Some(text) = text else {
+        return Err(LoadFault::NotFound(Text::of(alloc, name.bytes())?));
+    };
+    match module_in(alloc, name, text.as_slice()) {
         Ok(module) => Ok(module),
         Err(fault) => Err(refused(alloc, name, fault)?),
     }
@@ -75,25 +80,27 @@ fn identifier(name: &Text) -> Option<&str>
     }
 }
 
-/// Fetches the text under a name and reads it at once.
-pub fn fetch_module<S: Shelf>(
+/// The module of a name, from the text that is given, or else from the one that is fetched under the name, read at once.
+pub fn find_module<S: Shelf>(
     alloc: Global,
     shelf: &mut S,
     name: &Text,
+    given: Option<Vec<u8>>,
 ) -> Result<Module, LoadFault>
-    ensures told { WhereTold (S.folder shelf.old)
-        (λ folder. Ends result (spec.module_under folder name.now)) }
+    ensures loads { Loads result (λ m. m)
+        (λ folder. spec.find (option_map (λ v. v.items) given) folder name.now)
+        (S.folder shelf.old, S.count shelf.old) (S.folder shelf.new, S.count shelf.new) }
     ensures name { IfOk result (λ m. m.name ≡ name.now) }
-    ensures cause { LoadCause result (S.count shelf.old) (S.count shelf.new) }
-    ensures kept { S.folder shelf.new ≡ S.folder shelf.old }
 {
+    if let Some(text) = given {
+        return module_at(alloc, name, Some(text));
+    }
     let Some(word) = identifier(name) else {
-        return Err(LoadFault::NotFound(Text::of(alloc, name.bytes())?));
+        return module_at(alloc, name, None);
     };
     match shelf.fetch(alloc, word, AT_MOST) {
         Err(ShelfFault::Failed) => Err(LoadFault::ReadFault),
         Err(ShelfFault::Memory) => Err(LoadFault::Memory),
-        Ok(None) => Err(LoadFault::NotFound(Text::of(alloc, name.bytes())?)),
-        Ok(Some(text)) => read_text(alloc, name, text.as_slice()),
+        Ok(text) => module_at(alloc, name, text),
     }
 }

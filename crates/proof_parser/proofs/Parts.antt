@@ -1,18 +1,17 @@
 -- What has been read in the grammar of modules, step by step.
-use Rattle.std.proofs.Common.{◌≡◌, ℕ, zero, suc, Bool, true, false, if◌then◌else◌, nat_eq, ◌||◌, List, [], ◌∷◌, ◌++◌, length, Ok, refl, sym, ap, subst, ◌∙◌, append_assoc}
+use Rattle.std.proofs.Common.{◌≡◌, ℕ, zero, suc, Bool, true, false, nat_eq, List, [], ◌∷◌, ◌++◌, length, Ok, refl, sym, ap, subst, ◌∙◌, append_assoc}
 use Rattle.std.specs.List.{list_any}
 use Rattle.std.specs.Cmp.Lexicographic.{pointwise}
-use Rattle.std.proofs.lemmas.Bool.{and_parts, true≢false, false≢true}
-use Rattle.tla_ast.specs.declared.token.Tok.{Tok}
+use Rattle.std.proofs.lemmas.Bool.{and_parts, or_parts, cond_both, true≢false, false≢true}
+use Rattle.proof_parser.specs.Names.{Tok, is_last, Mark, Text}
 use Rattle.tla_ast.specs.declared.token.Tok.TheVariants as tok
-use Rattle.tla_ast.specs.Listing.{is_last}
-use Rattle.token_reader.specs.declared.mark.Mark.{Mark}
 use Rattle.token_reader.specs.declared.mark.Mark.TheVariants as m
-use Rattle.token_reader.specs.Marks.{Text, mark_of, mark_in, words, signs, is_final}
+use Rattle.token_reader.specs.Marks.{mark_of, mark_in, words, signs, is_final}
 use Rattle.token_reader.specs.Input.{Tokens, Outcome, Reader, first, next, here, mark, sees, eat, after}
 use Rattle.token_reader.specs.Lists.{gathered, gathered_from, put_last, separated}
 use Rattle.token_reader.proofs.Steps.{got, refused, same-end, by-reader, after-no, after-yes, not-empty, not-final, marks-same}
 use Rattle.layout_parser.specs.Spelling as spell
+use Rattle.layout_parser.proofs.Steps.{Stands}
 use Rattle.proof_parser.specs.Modules.{outside, level_of, label_of}
 use Rattle.proof_parser.specs.Spelling.{Symbol, Symbols, Fits, sign, sign_at, step_token, at, phrase, optional, listed, Made, Spelled, none, token, of_place, of_phrase, of_parts}
 use Rattle.proof_parser.proofs.Phrases.{Spelt}
@@ -22,13 +21,8 @@ use Rattle.proof_parser.proofs.Phrases.{Spelt}
 -- a test that fails at each mark of a table fails at what is found in it
 not-in : (test : Mark → Bool) (rows : List (Text × Mark)) (text : Text) (otherwise : Mark) → list_any (λ r. test r.1) rows ≡ false → test otherwise ≡ false → test (mark_in rows text otherwise) ≡ false
 not-in test [] text otherwise missed last = last
-not-in test (r ∷ rs) text otherwise missed last = go (test r.1) (pointwise nat_eq r.0 text) refl missed (λ e. not-in test rs text otherwise e last)
-  where
-    go : (b found : Bool) → test r.1 ≡ b → (b || list_any (λ q. test q.1) rs) ≡ false → (list_any (λ q. test q.1) rs ≡ false → test (mark_in rs text otherwise) ≡ false)
-        → test (if found then r.1 else mark_in rs text otherwise) ≡ false
-    go true found is e later = absurd (true≢false e)
-    go false true is e later = is
-    go false false is e later = later e
+not-in test (r ∷ rs) text otherwise missed last = let p = or_parts (test r.1) _ missed in
+    cond_both (pointwise nat_eq r.0 text) r.1 (mark_in rs text otherwise) (λ k. test k ≡ false) (λ _. p.0) (λ _. not-in test rs text otherwise p.1 last)
 
 abbrev is_step : Mark → Bool
 is_step m.Step = true
@@ -68,9 +62,6 @@ pub record Read (ts rest : Tokens) (ys : Symbols) : Type 0 where
 pub nothing : {ts : Tokens} → Read ts ts []
 nothing = record { used = []; is = refl; spelled = none }
 
-pub up-to : {ts mid rest : Tokens} {ys : Symbols} → mid ≡ rest → Read ts mid ys → Read ts rest ys
-up-to {ts = ts} {ys = ys} e r = subst (λ l. Read ts l ys) e r
-
 pub up-from : {ts mid rest : Tokens} {ys : Symbols} → ts ≡ mid → Read mid rest ys → Read ts rest ys
 up-from {rest = rest} {ys = ys} e r = subst (λ l. Read l rest ys) (sym e) r
 
@@ -85,9 +76,12 @@ pub on-sign-at : (k : Mark) {ts rest : Tokens} {ys : Symbols} → is_final k ≡
 unfolding mark
 on-sign-at k {ts = ts} kept is r = on-token (not-final ts k kept is) (is, refl) r
 
-pub on-step : {ts rest : Tokens} {ys : Symbols} → mark ts ≡ m.Step → Read (next ts) rest ys → Read ts rest (step_token (level_of (first ts).tok) (label_of (first ts).tok) (here ts) ∷ ys)
+pub on-stands : {k : Mark} {ts rest : Tokens} {ys : Symbols} → Stands 0 k ts → Read (next ts) rest ys → Read ts rest (sign k ∷ ys)
+on-stands h r = on-token h.may.1 h.marked r
+
+pub on-step : {level : ℕ} {ts rest : Tokens} {ys : Symbols} → mark ts ≡ m.Step → level_of (first ts).tok ≡ level → Read (next ts) rest ys → Read ts rest (step_token level (label_of (first ts).tok) (here ts) ∷ ys)
 unfolding mark
-on-step {ts = ts} is r = on-token (not-final ts m.Step refl is) (step-token (first ts).tok is, refl) r
+on-step {ts = ts} is deep r = on-token (not-final ts m.Step refl is) (step-token (first ts).tok is ∙ ap (λ l. tok.Step l (label_of (first ts).tok)) deep, refl) r
 
 pub on-eaten : (k : Mark) {ts rest : Tokens} {ys : Symbols} → is_final k ≡ false → sees outside k ts ≡ true → Read (after outside k ts) rest ys → Read ts rest (sign k ∷ ys)
 on-eaten k {ts = ts} {rest = rest} {ys = ys} kept is r = on-sign k kept (seen k ts is) (subst (λ l. Read l rest ys) (after-yes outside k ts is) r)
@@ -122,10 +116,13 @@ on-made {rest = rest} p r = record {
   spelled = of_parts p.made (subst (λ l. Spelled p.parts p.read.used l) r.is p.read.spelled) r.spelled;
 }
 
+-- what holds of an outcome holds of what it is
+pub as-read : {A : Type 0} (P : A → Tokens → Type 0) {a b : A} {mid rest : Tokens} → (let o : Outcome A = Ok (a, mid) in o) ≡ Ok (b, rest) → P a mid → P b rest
+as-read P {a} {b} {mid} {rest} e h = let z = same-end a b mid rest e in subst (λ us. P b us) z.1 (subst (λ x. P x mid) z.0 h)
+
 -- what was read is what an outcome gives
 pub derived : {A : Type 0} (y : A → Symbol) {a b : A} {ts mid rest : Tokens} {parts : Symbols} → (let o : Outcome A = Ok (a, mid) in o) ≡ Ok (b, rest) → Made (y a) parts → Read ts mid parts → Derives (y b) ts rest
-derived y {a = a} {b = b} {ts = ts} {mid = mid} {rest = rest} e made r = let z = same-end a b mid rest e in
-    subst (λ c. Derives (y c) ts rest) z.0 (record { parts = _; made = made; read = up-to z.1 r })
+derived y {ts = ts} e made r = as-read (λ c us. Derives (y c) ts us) e (record { parts = _; made = made; read = r })
 
 -- the same, where that is another one's equal
 pub derived-as : {A : Type 0} (y : A → Symbol) {a b c : A} {ts mid rest : Tokens} {parts : Symbols} → (let o : Outcome A = Ok (a, mid) in o) ≡ Ok (b, rest) → a ≡ c → Made (y c) parts → Read ts mid parts → Derives (y b) ts rest
@@ -154,9 +151,5 @@ list-read {A} y item reads ts xs mid e = turns (length ts) [] ts e
           are = h.are ∙ append_assoc found (a ∷ []) (h.head ∷ h.tail);
           read = λ rest ys r. on-made (reads ts t1 a e1) (on-eaten m.Comma refl yes (h.read rest ys r));
         })
-        (λ no f2. let z = same-end (found ++ a ∷ []) xs (after outside m.Comma t1) mid f2 in record {
-          head = a;
-          tail = [];
-          are = sym z.0;
-          read = λ rest ys r. on-made (reads ts t1 a e1) (up-from (sym (after-no outside m.Comma t1 no) ∙ z.1) r);
-        }))
+        (λ no f2. as-read (λ xs us. Listed y found xs ts us) f2
+        (record { head = a; tail = []; are = refl; read = λ rest ys r. on-made (reads ts t1 a e1) (up-from (sym (after-no outside m.Comma t1 no)) r) })))

@@ -1,13 +1,8 @@
 -- What readings of modules are, in the words of the language.
 use Rattle.std.specs.Prelude.{◌≡◌, Bool, true, ◌++◌, Ok, Err}
-use Rattle.tla_ast.specs.declared.place.Place.{Place}
-use Rattle.tla_ast.specs.declared.token.Tok.TheVariants as tok
-use Rattle.tla_ast.specs.declared.fault.Fault.{Fault}
-use Rattle.tla_ast.specs.declared.fault.Kind.{Kind}
-use Rattle.tla_ast.specs.declared.fault.Kind.TheVariants.{StepLevel, NoQed}
-use Rattle.tla_ast.specs.declared.unit.Module.{Module}
 use Rattle.tla_ast.specs.Listing.{Ends}
-use Rattle.token_reader.specs.Marks.{Text}
+use Rattle.proof_parser.specs.Names.{Place, Fault, Kind, StepLevel, NoQed, Module, Text}
+use Rattle.tla_ast.specs.declared.token.Tok.TheVariants as tok
 use Rattle.token_reader.specs.Input.{Tokens, first}
 use Rattle.token_reader.specs.Faults.{is_of_expressions, FaultIn}
 use Rattle.proof_parser.specs.Modules.{module_of}

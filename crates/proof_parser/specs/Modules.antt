@@ -1,43 +1,18 @@
 -- Readings of modules: units, statements, proofs, steps, facts and definitions.
 use Rattle.std.specs.Prelude.{ℕ, zero, suc, ◌+◌, ◌-◌, Bool, true, false, ◌&&◌, ◌||◌, if◌then◌else◌, nat_eq, nat_lt, List, [], ◌∷◌, ◌++◌, length, map, Option, Some, None, Result, Ok, Err}
 use Rattle.std.specs.List.{list_any}
-use Rattle.tla_ast.specs.declared.place.Place.{Place}
-use Rattle.tla_ast.specs.declared.token.Token.{Token}
-use Rattle.tla_ast.specs.declared.token.Tok.{Tok}
+use Rattle.proof_parser.specs.Names.{Place, Token, Tok, StepLevel, NoQed, TooDeep, Fault, Node, out-Node, Form, out-Form, Form-F, Decl, Group, Def, roll-Def, Sort, Item, Statement, Fact, Proof, out-Proof, Proof-F, Step, roll-Step, out-Step, StepKind, ModuleUnit, UnitKind, Module, Mark, Setting, Stop, Text}
 use Rattle.tla_ast.specs.declared.token.Tok.TheVariants as tok
-use Rattle.tla_ast.specs.declared.fault.Kind.TheVariants.{StepLevel, NoQed, TooDeep}
-use Rattle.tla_ast.specs.declared.fault.Fault.{Fault}
 use Rattle.tla_ast.specs.declared.fault.Fault.TheVariants as fault
-use Rattle.tla_ast.specs.declared.tree.Node.{Node, out-Node}
-use Rattle.tla_ast.specs.declared.tree.Form.{Form, out-Form}
 use Rattle.tla_ast.specs.declared.tree.Form.TheVariants as form
-use Rattle.tla_ast.specs.declared.tree.Form.TheOpen.{Form-F}
-use Rattle.tla_ast.specs.declared.tree.Decl.{Decl}
-use Rattle.tla_ast.specs.declared.tree.Group.{Group}
-use Rattle.tla_ast.specs.declared.tree.Def.{Def, roll-Def}
-use Rattle.tla_ast.specs.declared.unit.Sort.{Sort}
 use Rattle.tla_ast.specs.declared.unit.Sort.TheVariants as sort
-use Rattle.tla_ast.specs.declared.unit.Item.{Item}
 use Rattle.tla_ast.specs.declared.unit.Item.TheVariants as item
-use Rattle.tla_ast.specs.declared.unit.Statement.{Statement}
-use Rattle.tla_ast.specs.declared.unit.Fact.{Fact}
 use Rattle.tla_ast.specs.declared.unit.Fact.TheVariants as fact
-use Rattle.tla_ast.specs.declared.unit.Proof.{Proof, out-Proof}
 use Rattle.tla_ast.specs.declared.unit.Proof.TheVariants as proof
-use Rattle.tla_ast.specs.declared.unit.Proof.TheOpen.{Proof-F}
-use Rattle.tla_ast.specs.declared.unit.Step.{Step, roll-Step, out-Step}
-use Rattle.tla_ast.specs.declared.unit.StepKind.{StepKind}
 use Rattle.tla_ast.specs.declared.unit.StepKind.TheVariants as kind
-use Rattle.tla_ast.specs.declared.unit.Unit.{Unit as ModuleUnit}
-use Rattle.tla_ast.specs.declared.unit.UnitKind.{UnitKind}
 use Rattle.tla_ast.specs.declared.unit.UnitKind.TheVariants as unit
-use Rattle.tla_ast.specs.declared.unit.Module.{Module}
-use Rattle.token_reader.specs.declared.mark.Mark.{Mark}
 use Rattle.token_reader.specs.declared.mark.Mark.TheVariants as m
-use Rattle.token_reader.specs.declared.setting.Setting.{Setting}
-use Rattle.token_reader.specs.declared.setting.Stop.{Stop}
 use Rattle.token_reader.specs.declared.setting.Stop.TheVariants as stop
-use Rattle.token_reader.specs.Marks.{Text, mark_of}
 use Rattle.token_reader.specs.Input.{after, Tokens, Outcome, Reader, ◌>>=◌, ◌>>◌, ◌<$>◌, pure, refuse, refusal, take, eat, expect, name, declared, first, next, here, mark, sees, sees_second, exhausted}
 use Rattle.token_reader.specs.Lists.{gathered, put_last, separated, ask, names}
 use Rattle.layout_parser.specs.Reading as reading
@@ -90,21 +65,14 @@ unit_name = λ ts.
     let named = (do d ← declared outside stop.Other; expect outside stop.Other m.Defines; pure (Some d)) ts in
     if sees outside m.Name ts && sees_second outside m.Defines ts then named else Ok (None, ts)
 
--- which tokens come between the parameters of a definition
-abbrev mutual
-  -- a name, and what follows a name
-  pub names_close : Tokens → Bool
-  names_close [] = false
-  names_close (t ∷ ts) = elim (mark_of t.tok) [ m.Name ↦ name_closes ts | _ ↦ false ]
-
-  -- a comma and more names, or `)` and then `==`
-  pub name_closes : Tokens → Bool
-  name_closes [] = false
-  name_closes (t ∷ ts) = elim (mark_of t.tok) [ m.Comma ↦ names_close ts | m.CloseParen ↦ sees outside m.Defines ts | _ ↦ false ]
+-- after the names that were read come `)` and `==`
+abbrev pub closes : Outcome (List Decl) → Bool
+closes (Ok p) = sees outside m.CloseParen p.1 && sees_second outside m.Defines p.1
+closes (Err e) = false
 
 -- A step whose first token is a name is a definition without DEFINE where the name has `==` behind it, or `(` names `)` `==`.
 unfoldable pub begins_definition : Tokens → Bool
-begins_definition ts = sees_second outside m.Defines ts || (sees_second outside m.OpenParen ts && names_close (next (next ts)))
+begins_definition ts = sees_second outside m.Defines ts || (sees_second outside m.OpenParen ts && closes (plain_names (next (next ts))))
 
 -- ---- levels of steps
 
@@ -117,10 +85,10 @@ abbrev pub label_of : Tok → Text
 label_of (tok.Step level label) = label
 label_of _ = []
 
--- a level is deeper than that of the innermost unfinished proof, if there is one
-abbrev pub is_deeper : ℕ → Option ℕ → Bool
-is_deeper level None = true
-is_deeper level (Some n) = nat_lt n level
+-- a level is deeper than that of the innermost of these unfinished proofs, which stands first, if there is one
+abbrev pub is_deeper : ℕ → List ℕ → Bool
+is_deeper level [] = true
+is_deeper level (n ∷ ns) = nat_lt n level
 
 -- a level is that of one of these unfinished proofs
 abbrev pub is_open : ℕ → List ℕ → Bool
@@ -257,7 +225,7 @@ module _ (n : ℕ) where
   -- facts and, after DEF, names of definitions; one of the two may be missing
   unfoldable pub cited : Bool → Reader (List Fact × List Decl)
   cited hides = λ ts.
-      let names_alone = ((λ ds. ([], ds)) <$> definitions_cited) ts in
+      let names_alone = (take >> ((λ ds. ([], ds)) <$> plain_names)) ts in
       let facts_first = (do
         fs ← facts hides
         ds ← definitions_cited
@@ -289,9 +257,7 @@ module _ (n : ℕ) where
   witnesses = separated outside m.Comma last_expression []
 
   unfoldable pub uses : Bool → Reader StepKind
-  uses hides = do
-    c ← cited hides
-    pure (if hides then kind.Hide c.0 c.1 else kind.Add c.0 c.1)
+  uses hides = (λ c. if hides then kind.Hide c.0 c.1 else kind.Add c.0 c.1) <$> cited hides
 
   unfoldable pub assertion : Reader StepKind
   assertion = kind.Assert <$> statement true
@@ -346,26 +312,29 @@ abbrev pub is_qed : StepKind → Bool
 is_qed kind.Qed = true
 is_qed _ = false
 
+abbrev pub step_of : Place → ℕ → Text → StepKind → Proof → Step
+step_of place level label k p = roll-Step (record { place = place; level = level; label = label; kind = k; proof = p })
+
 -- ---- proofs
 
--- a reader of proofs, by the level of the innermost unfinished proof round it and the levels of all of them
+-- a reader of proofs, by the levels of the unfinished proofs round it, the innermost first
 abbrev pub ProofReader : Type 0
-ProofReader = Option ℕ → List ℕ → Reader Proof
+ProofReader = List ℕ → Reader Proof
 
 -- a proof begins with the next token: a word of proofs, or a step of a deeper level
-abbrev pub begins_proof : Option ℕ → Mark → Tok → Bool
-begins_proof under m.Proof t = true
-begins_proof under m.Obvious t = true
-begins_proof under m.Omitted t = true
-begins_proof under m.By t = true
-begins_proof under m.Step t = is_deeper (level_of t) under
-begins_proof under _ t = false
+abbrev pub begins_proof : List ℕ → Mark → Tok → Bool
+begins_proof levels m.Proof t = true
+begins_proof levels m.Obvious t = true
+begins_proof levels m.Omitted t = true
+begins_proof levels m.By t = true
+begins_proof levels m.Step t = is_deeper (level_of t) levels
+begins_proof levels _ t = false
 
 -- the proof that follows, if one does
 abbrev pub optional : ProofReader → ProofReader
-optional inner under levels = λ ts.
-    let found = inner under levels ts in
-    if begins_proof under (mark ts) (first ts).tok then found else Ok (proof.Missing, ts)
+optional inner levels = λ ts.
+    let found = inner levels ts in
+    if begins_proof levels (mark ts) (first ts).tok then found else Ok (proof.Missing, ts)
 
 -- `n` is how many nestings may begin, the proof itself among them, and `inner` reads a proof in a further nesting
 module _ (n : ℕ) (inner : ProofReader) where
@@ -378,16 +347,16 @@ module _ (n : ℕ) (inner : ProofReader) where
 
   -- the proof of a step of this kind
   unfoldable pub step_proof : StepKind → ProofReader
-  step_proof k under levels = if has_proof k then optional inner under levels else pure proof.Missing
+  step_proof k levels = if has_proof k then optional inner levels else pure proof.Missing
 
-  -- a step, where all of these levels are those of unfinished proofs, the last that of its own proof
+  -- a step, where all of these levels are those of unfinished proofs, the first that of its own proof
   unfoldable pub step : List ℕ → Reader Step
   step levels = λ ts.
       (do
         place ← take
         k ← kind_of n
-        p ← step_proof k (Some (level_of (first ts).tok)) levels
-        pure (roll-Step (record { place = place; level = level_of (first ts).tok; label = label_of (first ts).tok; kind = k; proof = p }))) ts
+        p ← step_proof k levels
+        pure (step_of place (level_of (first ts).tok) (label_of (first ts).tok) k p)) ts
 
   -- after a step of a proof of this level the proof ends where that was its QED, and else goes on with a step of its level
   unfoldable pub steps_from : ℕ → ℕ → List ℕ → List Step → Reader (List Step)
@@ -405,25 +374,25 @@ module _ (n : ℕ) (inner : ProofReader) where
 
   -- a proof by steps, whose level is that of its first step
   unfoldable pub steps : ProofReader
-  steps under levels = λ ts.
-      let found = (proof.Steps <$> steps_of (level_of (first ts).tok) (levels ++ level_of (first ts).tok ∷ [])) ts in
-      if is_deeper (level_of (first ts).tok) under then found else Err (fault.At (here ts) StepLevel)
+  steps levels = λ ts.
+      let found = (proof.Steps <$> steps_of (level_of (first ts).tok) (level_of (first ts).tok ∷ levels)) ts in
+      if is_deeper (level_of (first ts).tok) levels then found else Err (fault.At (here ts) StepLevel)
 
-  abbrev pub proof_by : Option ℕ → List ℕ → Mark → Reader Proof
-  proof_by under levels m.Obvious = proof.Obvious <$> take
-  proof_by under levels m.Omitted = proof.Omitted <$> take
-  proof_by under levels m.By = by
-  proof_by under levels m.Step = steps under levels
-  proof_by under levels _ = refuse outside stop.Other
+  abbrev pub proof_by : List ℕ → Mark → Reader Proof
+  proof_by levels m.Obvious = proof.Obvious <$> take
+  proof_by levels m.Omitted = proof.Omitted <$> take
+  proof_by levels m.By = by
+  proof_by levels m.Step = steps levels
+  proof_by levels _ = refuse outside stop.Other
 
   -- a proof, with or without the word PROOF
   unfoldable pub proof_of : ProofReader
-  proof_of under levels = λ ts. proof_by under levels (mark (after outside m.Proof ts)) (after outside m.Proof ts)
+  proof_of levels = λ ts. proof_by levels (mark (after outside m.Proof ts)) (after outside m.Proof ts)
 
 -- a proof in a further nesting, where so many nestings may begin
 unfoldable pub subproof : ℕ → ProofReader
-subproof zero under levels ts = Err (fault.At (here ts) TooDeep)
-subproof (suc n) under levels ts = proof_of (suc n) (subproof n) under levels ts
+subproof zero levels ts = Err (fault.At (here ts) TooDeep)
+subproof (suc n) levels ts = proof_of (suc n) (subproof n) levels ts
 
 -- ---- units
 
@@ -433,7 +402,7 @@ in_unit = 201
 
 -- the proof of a theorem, if it has one; it is no nesting
 abbrev pub theorem_proof : Reader Proof
-theorem_proof = optional (subproof in_unit) None []
+theorem_proof = optional (subproof in_unit) []
 
 unfoldable pub theorem : Reader UnitKind
 theorem = do

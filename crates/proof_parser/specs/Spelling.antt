@@ -1,41 +1,26 @@
 -- The grammar of modules: which tokens, in which order, are a spelling of a module.
 use Rattle.std.specs.Prelude.{◌≡◌, ℕ, zero, suc, Bool, true, false, if◌then◌else◌, List, [], ◌∷◌, ◌++◌, map, Option, Some, None}
-use Rattle.tla_ast.specs.declared.place.Place.{Place}
-use Rattle.tla_ast.specs.declared.token.Token.{Token}
+use Rattle.proof_parser.specs.Names.{Place, Token, Node, Decl, Group, Item, Statement, Fact, Proof, Step, out-Step, StepKind, ModuleUnit, UnitKind, Module, is_last, Mark, Text}
 use Rattle.tla_ast.specs.declared.token.Tok.TheVariants as tok
-use Rattle.tla_ast.specs.declared.tree.Node.{Node}
 use Rattle.tla_ast.specs.declared.tree.Form.TheVariants as form
-use Rattle.tla_ast.specs.declared.tree.Decl.{Decl}
-use Rattle.tla_ast.specs.declared.tree.Group.{Group}
 use Rattle.tla_ast.specs.declared.unit.Sort.TheVariants as sort
-use Rattle.tla_ast.specs.declared.unit.Item.{Item}
 use Rattle.tla_ast.specs.declared.unit.Item.TheVariants as item
-use Rattle.tla_ast.specs.declared.unit.Statement.{Statement}
-use Rattle.tla_ast.specs.declared.unit.Fact.{Fact}
 use Rattle.tla_ast.specs.declared.unit.Fact.TheVariants as fact
-use Rattle.tla_ast.specs.declared.unit.Proof.{Proof}
 use Rattle.tla_ast.specs.declared.unit.Proof.TheVariants as proof
-use Rattle.tla_ast.specs.declared.unit.Step.{Step, roll-Step, out-Step}
-use Rattle.tla_ast.specs.declared.unit.StepKind.{StepKind}
 use Rattle.tla_ast.specs.declared.unit.StepKind.TheVariants as kind
-use Rattle.tla_ast.specs.declared.unit.Unit.{Unit as ModuleUnit}
-use Rattle.tla_ast.specs.declared.unit.UnitKind.{UnitKind}
 use Rattle.tla_ast.specs.declared.unit.UnitKind.TheVariants as unit
-use Rattle.tla_ast.specs.declared.unit.Module.{Module}
-use Rattle.tla_ast.specs.Listing.{is_last}
-use Rattle.token_reader.specs.declared.mark.Mark.{Mark}
 use Rattle.token_reader.specs.declared.mark.Mark.TheVariants as m
-use Rattle.token_reader.specs.Marks.{Text}
 use Rattle.token_reader.specs.Input.{Tokens, first}
 use Rattle.layout_parser.specs.Reading.{node, group}
 use Rattle.layout_parser.specs.Spelling as spell
-use Rattle.proof_parser.specs.Modules.{is_deeper, has_proof, is_qed, extended}
+use Rattle.proof_parser.specs.Modules.{is_deeper, has_proof, is_qed, step_of, extended}
 
 -- ---- symbols
 
 -- What a rule of the grammar is made of: one token (as the grammar of expressions has it, or that of a step); no token, where the
 -- next stands at a place; symbols of the grammar of expressions, in no bracket; and what has rules of its own. A test says whether
--- facts are those of HIDE. A proof has the level of the innermost proof round it, and steps and a step have that of their proof.
+-- facts are those of HIDE. A proof has the levels of the proofs round it, the innermost first; before them steps and a step have that
+-- of their own proof.
 pub data Symbol : Type 0 where
   one : spell.Symbol → Symbol
   step_token : ℕ → Text → Place → Symbol
@@ -47,10 +32,10 @@ pub data Symbol : Type 0 where
   cited : Bool → List Fact × List Decl → Symbol
   groups : List Group → Symbol
   a_kind : StepKind → Symbol
-  a_proof : Option ℕ → Proof → Symbol
-  body : Option ℕ → Proof → Symbol
-  steps : ℕ → List Step → Symbol
-  a_step : ℕ → Step → Symbol
+  a_proof : List ℕ → Proof → Symbol
+  body : List ℕ → Proof → Symbol
+  steps : List ℕ → List Step → Symbol
+  a_step : List ℕ → Step → Symbol
   a_unit : UnitKind → Symbol
   units : List ModuleUnit → Symbol
 
@@ -149,17 +134,17 @@ pub data Made : Symbol → Symbols → Type 0 where
   of_hide : (c : List Fact × List Decl) → Made (a_kind (kind.Hide c.0 c.1)) (sign m.Hide ∷ cited true c ∷ [])
   qed : Made (a_kind kind.Qed) (sign m.Qed ∷ [])
   -- proofs: the steps of a proof have one level, deeper than that of the proof round it, and the last of them and no other is its QED
-  missing : (under : Option ℕ) → Made (a_proof under proof.Missing) []
-  there : (under : Option ℕ) (worded : Bool) (p : Proof) → Made (a_proof under p) (optional m.Proof worded (body under p ∷ []))
-  obvious : (under : Option ℕ) (place : Place) → Made (body under (proof.Obvious place)) (sign_at m.Obvious place ∷ [])
-  omitted : (under : Option ℕ) (place : Place) → Made (body under (proof.Omitted place)) (sign_at m.Omitted place ∷ [])
-  by : (under : Option ℕ) (place : Place) (only : Bool) (c : List Fact × List Decl)
-      → Made (body under (proof.By place only c.0 c.1)) (sign_at m.By place ∷ optional m.Only only (cited false c ∷ []))
-  by_steps : (under : Option ℕ) (level : ℕ) (ss : List Step) → is_deeper level under ≡ true → Made (body under (proof.Steps ss)) (steps level ss ∷ [])
-  last_step : (level : ℕ) (s : Step) → is_qed (out-Step s).kind ≡ true → Made (steps level (s ∷ [])) (a_step level s ∷ [])
-  further_steps : (level : ℕ) (s : Step) (ss : List Step) → is_qed (out-Step s).kind ≡ false → Made (steps level (s ∷ ss)) (a_step level s ∷ steps level ss ∷ [])
-  step : (level : ℕ) (label : Text) (place : Place) (k : StepKind) (p : Proof) → (has_proof k ≡ false → p ≡ proof.Missing)
-      → Made (a_step level (roll-Step (record { place = place; level = level; label = label; kind = k; proof = p }))) (step_token level label place ∷ a_kind k ∷ a_proof (Some level) p ∷ [])
+  missing : (levels : List ℕ) → Made (a_proof levels proof.Missing) []
+  there : (levels : List ℕ) (worded : Bool) (p : Proof) → Made (a_proof levels p) (optional m.Proof worded (body levels p ∷ []))
+  obvious : (levels : List ℕ) (place : Place) → Made (body levels (proof.Obvious place)) (sign_at m.Obvious place ∷ [])
+  omitted : (levels : List ℕ) (place : Place) → Made (body levels (proof.Omitted place)) (sign_at m.Omitted place ∷ [])
+  by : (levels : List ℕ) (place : Place) (only : Bool) (c : List Fact × List Decl)
+      → Made (body levels (proof.By place only c.0 c.1)) (sign_at m.By place ∷ optional m.Only only (cited false c ∷ []))
+  by_steps : (levels : List ℕ) (level : ℕ) (ss : List Step) → is_deeper level levels ≡ true → Made (body levels (proof.Steps ss)) (steps (level ∷ levels) ss ∷ [])
+  last_step : (levels : List ℕ) (s : Step) → is_qed (out-Step s).kind ≡ true → Made (steps levels (s ∷ [])) (a_step levels s ∷ [])
+  further_steps : (levels : List ℕ) (s : Step) (ss : List Step) → is_qed (out-Step s).kind ≡ false → Made (steps levels (s ∷ ss)) (a_step levels s ∷ steps levels ss ∷ [])
+  step : (levels : List ℕ) (level : ℕ) (label : Text) (place : Place) (k : StepKind) (p : Proof) → (has_proof k ≡ false → p ≡ proof.Missing)
+      → Made (a_step (level ∷ levels) (step_of place level label k p)) (step_token level label place ∷ a_kind k ∷ a_proof (level ∷ levels) p ∷ [])
   -- units
   constants_unit : (several : Bool) (d : Decl) (ds : List Decl)
       → Made (a_unit (unit.Constants (d ∷ ds))) (sign (if several then m.Constants else m.Constant) ∷ phrase (constants d ds) ∷ [])
@@ -168,7 +153,7 @@ pub data Made : Symbol → Symbols → Type 0 where
   assumption : (is_axiom : Bool) (x : Option Decl) (e : Node)
       → Made (a_unit (unit.Assume x e)) (sign (if is_axiom then m.Assumption else m.Assume) ∷ name_of x (expression e ∷ []))
   definition_unit : (d : spell.Definition) → Made (a_unit (unit.Define (spell.def_of d))) (phrase (spell.definition 0 false d) ∷ [])
-  theorem : (x : Option Decl) (s : Statement) (p : Proof) → Made (a_unit (unit.Theorem x s p)) (sign m.Theorem ∷ name_of x (a_statement s ∷ a_proof None p ∷ []))
+  theorem : (x : Option Decl) (s : Statement) (p : Proof) → Made (a_unit (unit.Theorem x s p)) (sign m.Theorem ∷ name_of x (a_statement s ∷ a_proof [] p ∷ []))
   no_units : Made (units []) []
   rule_between : (us : List ModuleUnit) → Made (units us) (sign m.Rule ∷ units us ∷ [])
   further_units : (u : ModuleUnit) (us : List ModuleUnit) → Made (units (u ∷ us)) (at u.place ∷ a_unit u.kind ∷ units us ∷ [])

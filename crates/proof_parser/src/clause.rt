@@ -1,6 +1,6 @@
 //! Definitions, statements and bound names.
 
-ghost use Rattle.std.specs.Prelude.{◌≡◌, ◌||◌, [], IfOk};
+ghost use Rattle.std.specs.Prelude.{◌≡◌, ◌||◌, []};
 ghost use Rattle.token_reader.specs.Input as input;
 ghost use Rattle.tla_ast.specs.Answers.{Reads};
 ghost use Rattle.proof_parser.specs.Modules as spec;
@@ -56,24 +56,16 @@ impl Clauses {
     pub fn definition(self, cursor: &mut Cursor<'_>) -> Result<Def, Fault>
         ensures { Reads (spec.definition self.nestings cursor.old) result cursor.new }
     {
-        let Decl {
-            name,
-            arity: _,
-            place,
-        } = cursor.declared(self.alloc, outside(), Stop::Other)?;
-        let params = definition_head(
-            self.alloc,
-            cursor,
-            self.nestings.saturating_sub(1),
-            outside(),
-        )?;
+        let decl = cursor.declared(self.alloc, outside(), Stop::Other)?;
+        let left = self.nestings.saturating_sub(1);
+        let params = definition_head(self.alloc, cursor, left, outside())?;
         let body = self.expression(cursor)?;
         let body = Boxed::new(self.alloc, body)?;
         Ok(Def {
-            name,
+            name: decl.name,
             params,
             body,
-            place,
+            place: decl.place,
         })
     }
 
@@ -111,14 +103,8 @@ impl Clauses {
         let sort = Sort::Constant;
         let decl = cursor.declared(self.alloc, outside(), Stop::Other)?;
         if !cursor.eat(outside(), Mark::Belongs) {
-            return self.name_end(
-                cursor,
-                Item::New {
-                    sort,
-                    decl,
-                    domain: None,
-                },
-            );
+            let domain = None;
+            return self.name_end(cursor, Item::New { sort, decl, domain });
         }
         let set = self.expression(cursor)?;
         let domain = Some(Boxed::new(self.alloc, set)?);
@@ -131,14 +117,8 @@ impl Clauses {
         ensures { Reads (spec.new_variable self.nestings sort cursor.old) result cursor.new }
     {
         let decl = cursor.declared(self.alloc, outside(), Stop::Other)?;
-        self.name_end(
-            cursor,
-            Item::New {
-                sort,
-                decl,
-                domain: None,
-            },
-        )
+        let domain = None;
+        self.name_end(cursor, Item::New { sort, decl, domain })
     }
 
     /// What is declared, after NEW.
@@ -239,11 +219,9 @@ impl Clauses {
         if cursor.sees(outside(), Mark::Belongs) {
             return bounds(self.alloc, cursor, self.nestings, outside(), names);
         }
+        let domain = None;
         let mut found = Items::new(self.alloc);
-        found.push(Group {
-            names,
-            domain: None,
-        })?;
+        found.push(Group { names, domain })?;
         Ok(found)
     }
 

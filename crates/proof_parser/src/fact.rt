@@ -112,11 +112,12 @@ impl Clauses {
     ) -> Result<(Items<Fact>, Items<Decl>), Fault>
         ensures { Reads (spec.cited self.nestings hides cursor.old) result cursor.new }
     {
-        let facts = if cursor.sees(outside(), Mark::Def) {
-            Items::new(self.alloc)
-        } else {
-            self.facts(cursor, hides)?
-        };
+        if cursor.sees(outside(), Mark::Def) {
+            cursor.advance();
+            let names = plain_names(self.alloc, cursor)?;
+            return Ok((Items::new(self.alloc), names));
+        }
+        let facts = self.facts(cursor, hides)?;
         let names = self.definitions_cited(cursor)?;
         Ok((facts, names))
     }

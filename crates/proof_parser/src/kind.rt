@@ -1,6 +1,6 @@
 //! What a step does.
 
-ghost use Rattle.std.specs.Prelude.{◌≡◌, IfOk};
+ghost use Rattle.std.specs.Prelude.{◌≡◌};
 ghost use Rattle.token_reader.specs.Input as input;
 ghost use Rattle.tla_ast.specs.Answers.{Reads};
 ghost use Rattle.proof_parser.specs.Modules as spec;
@@ -59,19 +59,6 @@ impl Clauses {
         Err(cursor.exhausted())
     }
 
-    /// USE or HIDE, after that word.
-    #[tactic(auto, unfolding(crate::specs::Modules::uses))]
-    fn uses(self, cursor: &mut Cursor<'_>, hides: bool) -> Result<StepKind, Fault>
-        ensures { Reads (spec.uses self.nestings hides cursor.old) result cursor.new }
-    {
-        let (facts, defs) = self.cited(cursor, hides)?;
-        if hides {
-            Ok(StepKind::Hide { facts, defs })
-        } else {
-            Ok(StepKind::Add { facts, defs })
-        }
-    }
-
     /// A statement that is asserted.
     #[tactic(auto, unfolding(crate::specs::Modules::assertion))]
     fn assertion(self, cursor: &mut Cursor<'_>) -> Result<StepKind, Fault>
@@ -85,7 +72,7 @@ impl Clauses {
     fn name_step(self, cursor: &mut Cursor<'_>) -> Result<StepKind, Fault>
         ensures { Reads (spec.name_step self.nestings cursor.old) result cursor.new }
     {
-        if begins_definition(cursor) {
+        if begins_definition(self.alloc, cursor)? {
             Ok(StepKind::Define(self.definitions(cursor)?))
         } else {
             self.assertion(cursor)
@@ -93,6 +80,7 @@ impl Clauses {
     }
 
     /// What follows the word with which a step begins.
+    #[tactic(auto, unfolding(crate::specs::Modules::uses))]
     fn after_word(self, cursor: &mut Cursor<'_>, word: Mark) -> Result<StepKind, Fault>
         ensures { Reads (spec.after_word self.nestings word cursor.old) result cursor.new }
     {
@@ -104,8 +92,14 @@ impl Clauses {
             Mark::Witness => Ok(StepKind::Witness(self.witnesses(cursor)?)),
             Mark::Pick => self.pick(cursor),
             Mark::Define => Ok(StepKind::Define(self.definitions(cursor)?)),
-            Mark::Use => self.uses(cursor, false),
-            Mark::Hide => self.uses(cursor, true),
+            Mark::Use => {
+                let (facts, defs) = self.cited(cursor, false)?;
+                Ok(StepKind::Add { facts, defs })
+            }
+            Mark::Hide => {
+                let (facts, defs) = self.cited(cursor, true)?;
+                Ok(StepKind::Hide { facts, defs })
+            }
             _ => Ok(StepKind::Qed),
         }
     }

@@ -1,14 +1,14 @@
 //! Names of units, constants, and where a definition begins.
 
-ghost use Rattle.std.specs.Prelude.{◌≡◌, ◌&&◌, ◌||◌};
-ghost use Rattle.token_reader.specs.Input as input;
+ghost use Rattle.std.specs.Prelude.{◌≡◌, IfOk};
 ghost use Rattle.tla_ast.specs.Answers.{Reads};
 ghost use Rattle.proof_parser.specs.Modules as spec;
 
+use core_expr::Memory;
 use sqlite_items::Items;
 use std::alloc::Global;
-use tla_ast::{Decl, Fault, Token};
-use token_reader::{Around, Cursor, Mark, Setting, Stop, mark_of, names};
+use tla_ast::{Decl, Fault};
+use token_reader::{Around, Cursor, Mark, Setting, Stop, names};
 
 /// The setting of units and steps: they use every token, and stand in no bracket.
 pub fn outside() -> Setting
@@ -92,42 +92,25 @@ pub fn unit_name(alloc: Global, cursor: &mut Cursor<'_>) -> Result<Option<Decl>,
     Ok(Some(decl))
 }
 
-/// Whether names with commas between, and then `)` and `==`, stand at the front.
-fn names_close(tokens: &[Token]) -> bool
-    ensures { result ≡ spec.names_close tokens.now }
+/// Whether the name that comes next begins a definition.
+#[tactic(auto, unfolding(crate::specs::Modules::begins_definition))]
+pub fn begins_definition(alloc: Global, cursor: &Cursor<'_>) -> Result<bool, Memory>
+    ensures { IfOk result (λ begins. begins ≡ spec.begins_definition cursor.now) }
 {
-    let mut rest = tokens;
-    while let [name, after, more @ ..] = rest {
-        match mark_of(&name.tok) {
-            Mark::Name => {}
-            _ => return false,
-        }
-        match mark_of(&after.tok) {
-            Mark::Comma => rest = more,
-            Mark::CloseParen => return Cursor::new(more).sees(outside(), Mark::Defines),
-            _ => return false,
-        }
+    if cursor.sees_second(outside(), Mark::Defines) {
+        return Ok(true);
     }
-    false
-}
-
-/// The tokens after the next two.
-fn behind_two<'a>(cursor: &Cursor<'a>) -> &'a [Token]
-    ensures { result.now ≡ input.next (input.next cursor.now) }
-{
+    if !cursor.sees_second(outside(), Mark::OpenParen) {
+        return Ok(false);
+    }
     let mut ahead = Cursor::new(cursor.rest());
     ahead.advance();
     ahead.advance();
-    ahead.rest()
-}
-
-/// Whether the name that comes next begins a definition.
-#[tactic(auto, unfolding(crate::specs::Modules::begins_definition))]
-pub fn begins_definition(cursor: &Cursor<'_>) -> bool
-    ensures { result ≡ spec.begins_definition cursor.now }
-{
-    if cursor.sees_second(outside(), Mark::Defines) {
-        return true;
+    match plain_names(alloc, &mut ahead) {
+        Ok(_) => Ok(
+            ahead.sees(outside(), Mark::CloseParen) && ahead.sees_second(outside(), Mark::Defines),
+        ),
+        Err(Fault::Memory) => Err(Memory),
+        Err(Fault::At { place: _, kind: _ }) => Ok(false),
     }
-    cursor.sees_second(outside(), Mark::OpenParen) && names_close(behind_two(cursor))
 }

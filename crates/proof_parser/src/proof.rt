@@ -1,7 +1,7 @@
 //! Proofs and steps. The rules take the reader of proofs of a further nesting as a parameter: so each is proved by itself, and one
 //! function alone recurses.
 
-ghost use Rattle.std.specs.Prelude.{◌≡◌, ◌++◌, ◌∷◌, [], Some, None, IfOk};
+ghost use Rattle.std.specs.Prelude.{◌≡◌, ◌∷◌, IfOk};
 ghost use Rattle.token_reader.specs.Input as input;
 ghost use Rattle.tla_ast.specs.Answers.{Told, Reads};
 ghost use Rattle.proof_parser.specs.Modules as spec;
@@ -27,13 +27,13 @@ pub struct Proofs<F> {
     pub read: F,
 }
 
-/// Whether a level is deeper than that of the innermost unfinished proof, if there is one.
-fn is_deeper(level: u128, under: Option<u128>) -> bool
-    ensures { result ≡ spec.is_deeper level under }
+/// Whether a level is deeper than that of the innermost of these unfinished proofs, which stands first, if there is one.
+fn is_deeper(level: u128, levels: &[u128]) -> bool
+    ensures { result ≡ spec.is_deeper level levels.now }
 {
-    match under {
-        None => true,
-        Some(innermost) => innermost < level,
+    match levels {
+        [] => true,
+        [innermost, ..] => *innermost < level,
     }
 }
 
@@ -54,10 +54,8 @@ fn misplaced(cursor: &Cursor<'_>, levels: &[u128]) -> Fault
     } else {
         Kind::StepLevel
     };
-    Fault::At {
-        place: cursor.place(),
-        kind,
-    }
+    let place = cursor.place();
+    Fault::At { place, kind }
 }
 
 /// Whether a proof without QED ends at a token with this mark, since a unit, a rule or the end token may follow a proof.
@@ -86,48 +84,32 @@ fn unfinished(alloc: Global, cursor: &Cursor<'_>) -> Fault
     if !ends_early(cursor.mark()) {
         return cursor.refusal(alloc, outside(), Stop::Other);
     }
-    Fault::At {
-        place: cursor.place(),
-        kind: Kind::NoQed,
-    }
+    let place = cursor.place();
+    let kind = Kind::NoQed;
+    Fault::At { place, kind }
 }
 
 /// Whether a proof begins with the next token.
-fn begins_proof(cursor: &Cursor<'_>, under: Option<u128>) -> bool
-    ensures { result ≡ spec.begins_proof under (input.mark cursor.now) (input.first cursor.now).tok }
+fn begins_proof(cursor: &Cursor<'_>, levels: &[u128]) -> bool
+    ensures { result ≡ spec.begins_proof levels.now (input.mark cursor.now) (input.first cursor.now).tok }
 {
     match cursor.mark() {
         Mark::Proof | Mark::Obvious | Mark::Omitted | Mark::By => true,
-        Mark::Step => is_deeper(level(cursor), under),
+        Mark::Step => is_deeper(level(cursor), levels),
         _ => false,
     }
 }
 
-/// The levels with one more.
-fn with_level(alloc: Global, levels: &[u128], level: u128) -> Result<Vec<u128>, Memory>
-    ensures { IfOk result (λ all. all.items ≡ levels.now ++ level ∷ []) }
+/// The levels behind one more.
+fn with_level(alloc: Global, level: u128, levels: &[u128]) -> Result<Vec<u128>, Memory>
+    ensures { IfOk result (λ all. all.items ≡ level ∷ levels.now) }
 {
-    let mut all = Vec::from_slice(alloc, levels)?;
-    all.push(level)?;
+    let mut all = vec![in alloc; level]?;
+    all.extend_from_slice(levels)?;
     Ok(all)
 }
 
-impl<F: Fn(Global, &mut Cursor<'_>, usize, Option<u128>, &[u128]) -> Result<Proof, Fault>> Proofs<
-    F,
-> {
-    /// A proof in a further nesting.
-    fn inner(
-        &self,
-        cursor: &mut Cursor<'_>,
-        under: Option<u128>,
-        levels: &[u128],
-    ) -> Result<Proof, Fault>
-        requires { Nests self.now.left (F.pre self.now.read) (F.post self.now.read) }
-        ensures { Reads (spec.subproof self.now.left under levels.now cursor.old) result cursor.new }
-    {
-        (self.read)(self.clauses.alloc, cursor, self.left, under, levels)
-    }
-
+impl<F: Fn(Global, &mut Cursor<'_>, usize, &[u128]) -> Result<Proof, Fault>> Proofs<F> {
     /// BY.
     #[tactic(auto, unfolding(crate::specs::Modules::by))]
     fn by(&self, cursor: &mut Cursor<'_>) -> Result<Proof, Fault>
@@ -151,14 +133,13 @@ impl<F: Fn(Global, &mut Cursor<'_>, usize, Option<u128>, &[u128]) -> Result<Proo
         &self,
         cursor: &mut Cursor<'_>,
         kind: &StepKind,
-        under: Option<u128>,
         levels: &[u128],
     ) -> Result<Proof, Fault>
         requires { Nests self.now.left (F.pre self.now.read) (F.post self.now.read) }
-        ensures { Reads (spec.step_proof self.now.clauses.nestings (spec.subproof self.now.left) kind.now under levels.now cursor.old) result cursor.new }
+        ensures { Reads (spec.step_proof self.now.clauses.nestings (spec.subproof self.now.left) kind.now levels.now cursor.old) result cursor.new }
     {
-        if has_proof(kind) && begins_proof(cursor, under) {
-            self.inner(cursor, under, levels)
+        if has_proof(kind) && begins_proof(cursor, levels) {
+            (self.read)(self.clauses.alloc, cursor, self.left, levels)
         } else {
             Ok(Proof::Missing)
         }
@@ -174,7 +155,7 @@ impl<F: Fn(Global, &mut Cursor<'_>, usize, Option<u128>, &[u128]) -> Result<Proo
         let label = label(self.clauses.alloc, cursor)?;
         let place = cursor.take();
         let kind = self.clauses.kind(cursor)?;
-        let proof = self.step_proof(cursor, &kind, Some(level), levels)?;
+        let proof = self.step_proof(cursor, &kind, levels)?;
         Ok(Step {
             place,
             level,
@@ -206,7 +187,8 @@ impl<F: Fn(Global, &mut Cursor<'_>, usize, Option<u128>, &[u128]) -> Result<Proo
             if !cursor.sees(outside(), Mark::Step) {
                 return Err(unfinished(self.clauses.alloc, cursor));
             }
-            if level(cursor) != level_of {
+            let goes_on = level(cursor) == level_of;
+            if !goes_on {
                 return Err(misplaced(cursor, levels));
             }
         }
@@ -215,44 +197,33 @@ impl<F: Fn(Global, &mut Cursor<'_>, usize, Option<u128>, &[u128]) -> Result<Proo
 
     /// A proof by steps.
     #[tactic(auto, unfolding(crate::specs::Modules::steps))]
-    fn steps(
-        &self,
-        cursor: &mut Cursor<'_>,
-        under: Option<u128>,
-        levels: &[u128],
-    ) -> Result<Proof, Fault>
+    fn steps(&self, cursor: &mut Cursor<'_>, levels: &[u128]) -> Result<Proof, Fault>
         requires { Nests self.now.left (F.pre self.now.read) (F.post self.now.read) }
-        ensures { Reads (spec.steps self.now.clauses.nestings (spec.subproof self.now.left) under levels.now cursor.old) result cursor.new }
+        ensures { Reads (spec.steps self.now.clauses.nestings (spec.subproof self.now.left) levels.now cursor.old) result cursor.new }
     {
         let level = level(cursor);
-        if !is_deeper(level, under) {
-            return Err(Fault::At {
-                place: cursor.place(),
-                kind: Kind::StepLevel,
-            });
+        if !is_deeper(level, levels) {
+            let place = cursor.place();
+            let kind = Kind::StepLevel;
+            return Err(Fault::At { place, kind });
         }
-        let levels = with_level(self.clauses.alloc, levels, level)?;
+        let levels = with_level(self.clauses.alloc, level, levels)?;
         let steps = self.steps_of(cursor, level, levels.as_slice())?;
         Ok(Proof::Steps(steps))
     }
 
     /// A proof, with or without the word PROOF.
     #[tactic(auto, unfolding(crate::specs::Modules::proof_of, token_reader::specs::Input::after))]
-    pub fn proof(
-        &self,
-        cursor: &mut Cursor<'_>,
-        under: Option<u128>,
-        levels: &[u128],
-    ) -> Result<Proof, Fault>
+    pub fn proof(&self, cursor: &mut Cursor<'_>, levels: &[u128]) -> Result<Proof, Fault>
         requires { Nests self.now.left (F.pre self.now.read) (F.post self.now.read) }
-        ensures { Reads (spec.proof_of self.now.clauses.nestings (spec.subproof self.now.left) under levels.now cursor.old) result cursor.new }
+        ensures { Reads (spec.proof_of self.now.clauses.nestings (spec.subproof self.now.left) levels.now cursor.old) result cursor.new }
     {
         cursor.eat(outside(), Mark::Proof);
         match cursor.mark() {
             Mark::Obvious => Ok(Proof::Obvious(cursor.take())),
             Mark::Omitted => Ok(Proof::Omitted(cursor.take())),
             Mark::By => self.by(cursor),
-            Mark::Step => self.steps(cursor, under, levels),
+            Mark::Step => self.steps(cursor, levels),
             _ => Err(cursor.refusal(self.clauses.alloc, outside(), Stop::Other)),
         }
     }
@@ -263,35 +234,30 @@ pub fn read_proof(
     alloc: Global,
     cursor: &mut Cursor<'_>,
     left: usize,
-    under: Option<u128>,
     levels: &[u128],
 ) -> Result<Proof, Fault>
-    ensures { Reads (spec.subproof left under levels.now cursor.old) result cursor.new }
+    ensures { Reads (spec.subproof left levels.now cursor.old) result cursor.new }
 {
     if left == 0 {
-        return Err(Fault::At {
-            place: cursor.place(),
-            kind: Kind::TooDeep,
-        });
+        let place = cursor.place();
+        let kind = Kind::TooDeep;
+        return Err(Fault::At { place, kind });
     }
-    let clauses = Clauses {
-        alloc,
-        nestings: left,
-    };
-    Proofs {
-        clauses,
+    let nestings = left;
+    let rules = Proofs {
+        clauses: Clauses { alloc, nestings },
         left: left - 1,
         read: read_proof,
-    }
-    .proof(cursor, under, levels)
+    };
+    rules.proof(cursor, levels)
 }
 
 /// The proof of a theorem, if it has one.
 pub fn theorem_proof(alloc: Global, cursor: &mut Cursor<'_>) -> Result<Proof, Fault>
     ensures { Reads (spec.theorem_proof cursor.old) result cursor.new }
 {
-    if begins_proof(cursor, None) {
-        read_proof(alloc, cursor, 201, None, &[])
+    if begins_proof(cursor, &[]) {
+        read_proof(alloc, cursor, 201, &[])
     } else {
         Ok(Proof::Missing)
     }

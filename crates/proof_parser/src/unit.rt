@@ -18,10 +18,8 @@ use token_reader::{Cursor, Mark, Stop};
 fn in_unit(alloc: Global) -> Clauses
     ensures { result.nestings ≡ spec.in_unit }
 {
-    Clauses {
-        alloc,
-        nestings: 201,
-    }
+    let nestings = 201;
+    Clauses { alloc, nestings }
 }
 
 /// A theorem.
@@ -92,10 +90,8 @@ fn unit(alloc: Global, cursor: &mut Cursor<'_>, after_steps: bool) -> Result<Uni
 {
     let place = cursor.place();
     if after_steps && cursor.sees(outside(), Mark::Step) {
-        return Err(Fault::At {
-            place,
-            kind: Kind::StepLevel,
-        });
+        let kind = Kind::StepLevel;
+        return Err(Fault::At { place, kind });
     }
     let kind = unit_kind(alloc, cursor)?;
     Ok(Unit { place, kind })

@@ -2,4 +2,4 @@ use Rattle.proof_parser.proofs.Keeping.{stand-in}
 use Rattle.proof_parser.proofs.laws.faults_stand_in_the_list.Goals as goal
 
 pub returns : goal.returns
-returns c = stand-in c.read_in_order.ensures c.ends_before_the_last.ensures c.faults_stand_in_the_list.ensures
+returns c = stand-in
