@@ -1,12 +1,9 @@
 -- What the bank's trees are.
-use Rattle.std.proofs.Common.{◌≡◌, ℕ, suc, ◌<◌, ◌≤◌, List, [], ◌∷◌, ◌++◌, length, get_or, Result, Ok, Err, ap, sym, ◌∙◌, arith, subst, append-nil}
+use Rattle.std.proofs.Common.{◌≡◌, ℕ, ◌<◌, ◌≤◌, List, [], ◌∷◌, ◌++◌, length, get_or, Result, Ok, Err, ap, sym, ◌∙◌, arith, subst, append-nil}
 use Rattle.std.specs.Prelude.{IfOk, OnErr}
 use Rattle.std.proofs.lemmas.List.{get_or_push, length_push, length-map}
-use Rattle.core_expr.specs.Tree.{Tree, Parts, true_}
-use Rattle.core_expr.specs.Tree.Tree.{bound, app, node, bind}
-use Rattle.core_expr.specs.Tree.Parts.{end, part}
-use Rattle.core_expr.specs.Put.{IsScoped, AreScoped}
-use Rattle.core_expr.specs.Loose.{loose, loose_all}
+use Rattle.core_expr.specs.Tree.{Tree, true_}
+use Rattle.core_expr.specs.Loose.{loose}
 use Rattle.core_expr.specs.Nodes.{Node, tree_over, trees_of, IsNode, AreBelow}
 use Rattle.term_bank.specs.Banks.{no_node, Extends, HasNode, HasTree}
 use Rattle.term_bank.specs.Slots.{node_of, reach_count, nodes_of, trees, IsHeld}
@@ -41,28 +38,6 @@ node_held slots buckets i n a h =
     (IsNode-more (get_or (nodes_of slots) i no_node) i (length (trees slots)) ll (a.bank.form i l))
     h.node
     (sym (a.bank.tree i l) ∙ h.tree)
-
-mutual
-  pub IsScoped-from_loose : (n : ℕ) (t : Tree) → loose t ≤ n → IsScoped n t
-  IsScoped-from_loose n (bound i) h = h
-  IsScoped-from_loose n (app f ps) h = AreScoped-from_loose n ps h
-  IsScoped-from_loose n (node f ns ps) h = AreScoped-from_loose n ps h
-  IsScoped-from_loose n (bind b ps e) h = (AreScoped-from_loose n ps (omega arith), IsScoped-from_loose (suc n) e (omega arith))
-
-  pub AreScoped-from_loose : (n : ℕ) (ps : Parts) → loose_all ps ≤ n → AreScoped n ps
-  AreScoped-from_loose n end h = tt
-  AreScoped-from_loose n (part e ps) h = (IsScoped-from_loose n e (omega arith), AreScoped-from_loose n ps (omega arith))
-
-mutual
-  pub loose-scoped : (n : ℕ) (t : Tree) → IsScoped n t → loose t ≤ n
-  loose-scoped n (bound i) h = h
-  loose-scoped n (app f ps) h = loose_all-scoped n ps h
-  loose-scoped n (node f ns ps) h = loose_all-scoped n ps h
-  loose-scoped n (bind b ps e) h = omega (arith, loose_all-scoped n ps h.0, loose-scoped (suc n) e h.1)
-
-  pub loose_all-scoped : (n : ℕ) (ps : Parts) → AreScoped n ps → loose_all ps ≤ n
-  loose_all-scoped n end h = omega arith
-  loose_all-scoped n (part e ps) h = omega (arith, loose-scoped n e h.0, loose_all-scoped n ps h.1)
 
 -- after a push, or after none
 pub pushed_extends : {E : Type 0} (r : Result ℕ E) (old new : List Slot) (n : Node) (ts : List Tree) → trees old ≡ ts → IfOk r (λ i. (i ≡ length old) × (nodes_of new ≡ nodes_of old ++ n ∷ [])) → OnErr r (nodes_of new ≡ nodes_of old) → Extends ts (trees new)

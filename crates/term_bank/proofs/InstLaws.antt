@@ -5,7 +5,7 @@ use Rattle.std.proofs.lemmas.List.{get_or_append_left, get_or_push, length_push,
 use Rattle.std.proofs.lemmas.Bool.{cases_lt}
 use Rattle.std.specs.Prelude.{IfOk, IsSome}
 use Rattle.core_expr.specs.Put.{inst, IsScoped}
-use Rattle.term_bank.proofs.BankLaws.{IsScoped-from_loose, loose-scoped}
+use Rattle.core_expr.proofs.LooseLaws.{IsScoped-from_loose, loose-scoped}
 use Rattle.term_bank.proofs.PutLaws.{inst-image, inst-closed}
 use Rattle.std.specs.Ordering.{nat_cmp}
 use Rattle.std.specs.BTreeMap.{is_at}
@@ -16,9 +16,6 @@ use Rattle.term_bank.specs.Banks.{Extends, HasNode, HasTree}
 use Rattle.term_bank.specs.Images.{image, is_body, part_tree, needs_image, In, IsTouched, HasParts, AreCovered, found, HasImage, HaveImages, ImagesOfParts, KeepsImages, moved_tree, AreMoved}
 use Rattle.term_bank.proofs.TableLaws.{AreBelow-at, AreBelow-more, picked-extend}
 use Rattle.term_bank.proofs.MarkLaws.{covered_at}
-
-pub Extends-refl : (ts : List Tree) → Extends ts ts
-Extends-refl ts = ([], sym (append-nil ts))
 
 pub same_tree : (ts now : List Tree) (q : ℕ) → Extends ts now → q < length ts → get_or now q true_ ≡ get_or ts q true_
 same_tree ts now q x h = ap (λ us. get_or us q true_) x.1 ∙ get_or_append_left ts x.0 true_ q h

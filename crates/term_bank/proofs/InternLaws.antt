@@ -11,13 +11,13 @@ use Rattle.core_expr.specs.Tree.{Tree, Parts, size, true_}
 use Rattle.core_expr.specs.Tree.Tree.{bound, app, node, bind}
 use Rattle.core_expr.specs.Tree.Parts.{end, part}
 use Rattle.core_expr.specs.Heads.{kind_number, kind_fits, plain_fits, binder_arity, table_numbers, make_kind, is_well_formed, are_well_formed}
-use Rattle.core_expr.specs.Flat.{row, rows_at, rows_of, row_at, all_rows, gather, rest, build, complete}
-use Rattle.core_expr.specs.Coding.{build-rows_at}
+use Rattle.core_expr.specs.Flat.{row, rows_at, rows_of, row_at, all_rows, build, complete}
+use Rattle.core_expr.specs.Coding.{onto, gather-all, rest-all, build-rows_at}
 use Rattle.core_expr.specs.Nodes.{picked, tree_over, AreBelow}
 use Rattle.term_bank.specs.Banks.{Extends, HasTree}
 use Rattle.core_expr.specs.Heads.{is_canon, is_lasting, is_canonical_kind, is_canonical, are_canonical}
 use Rattle.core_expr.proofs.NodeLaws.{row-make, row-fits}
-use Rattle.term_bank.specs.Canonical.{row_node, row_fits, fed, onto, IsRun}
+use Rattle.term_bank.specs.Canonical.{row_node, row_fits, fed, IsRun}
 use Rattle.term_bank.proofs.TableLaws.{is_true, length-picked, picked-extend, AreBelow-more}
 
 -- enough trees for the parts of a node
@@ -70,20 +70,6 @@ run_begins ts t w c =
 onto-append : (ts us st : List Tree) → onto (ts ++ us) st ≡ onto us (onto ts st)
 onto-append [] us st = refl
 onto-append (t ∷ ts) us st = onto-append ts us (t ∷ st)
-
-gather-onto : (ts us st : List Tree) (n : ℕ) → gather (length ts + n) (onto ts st) us ≡ gather n st (ts ++ us)
-gather-onto [] us st n = ap (λ k. gather k st us) (zero-add n)
-gather-onto (t ∷ ts) us st n = let o : suc (length ts) + n ≡ length ts + suc n = omega arith in ap (λ k. gather k (onto ts (t ∷ st)) us) o ∙ gather-onto ts us (t ∷ st) (suc n)
-
-rest-onto : (ts st : List Tree) (n : ℕ) → rest (length ts + n) (onto ts st) ≡ rest n st
-rest-onto [] st n = ap (λ k. rest k st) (zero-add n)
-rest-onto (t ∷ ts) st n = let o : suc (length ts) + n ≡ length ts + suc n = omega arith in ap (λ k. rest k (onto ts (t ∷ st))) o ∙ rest-onto ts (t ∷ st) (suc n)
-
-gather-all : (ts st : List Tree) (n : ℕ) → n ≡ length ts → gather n (onto ts st) [] ≡ ts
-gather-all ts st n e = let o : n ≡ length ts + 0 = omega (arith, e) in ap (λ k. gather k (onto ts st) []) o ∙ gather-onto ts [] st 0 ∙ append-nil ts
-
-rest-all : (ts st : List Tree) (n : ℕ) → n ≡ length ts → rest n (onto ts st) ≡ st
-rest-all ts st n e = let o : n ≡ length ts + 0 = omega (arith, e) in ap (λ k. rest k (onto ts st)) o ∙ rest-onto ts st 0
 
 pub picked-append : (ts : List Tree) (is js : List ℕ) → picked ts (is ++ js) ≡ picked ts is ++ picked ts js
 picked-append ts [] js = refl
@@ -145,7 +131,7 @@ run_step ts ts' stack r rs t k i ek a x h =
 
     -- the node completes its parts
     done : complete r (onto (picked ts stack) []) ≡ make_kind r.kind r.numbers (picked ts ys) ∷ base
-    done = ap (complete r) split ∙ (λ j. make_kind r.kind r.numbers (gather-all (picked ts ys) base r.parts parts j) ∷ rest-all (picked ts ys) base r.parts parts j)
+    done = ap (complete r) split ∙ (λ j. make_kind r.kind r.numbers ((gather-all r.parts (picked ts ys) [] base parts ∙ append-nil (picked ts ys)) j) ∷ rest-all r.parts (picked ts ys) base parts j)
 
     stack_is : onto (picked ts' (xs ++ i ∷ [])) [] ≡ make_kind r.kind r.numbers (picked ts ys) ∷ base
     stack_is =
@@ -220,6 +206,3 @@ ended ts stack t n len k a e l q =
     same : (is : List ℕ) → 0 < length is → get_or is 0 0 ≡ get_or is 0 k
     same [] h = absurd (omega arith)
     same (i ∷ is) h = refl
-
-pub some_left : (ts : List Tree) (stack : List ℕ) (t : Tree) (n len : ℕ) → IsRun ts stack (drop n (rows_of t)) t → len ≡ length (rows_of t) → len ≤ n → 0 < length stack
-some_left ts stack t n len a e l = (no_rows ts stack t n (omega (arith, e)) a).0

@@ -79,9 +79,6 @@ height-le b [] h = omega arith
 height-le b (x ∷ xs) h = omega (arith, h x (inl refl), height-le b xs (λ q a. h q (inr a)))
 
 -- adding the parts of a node
-pub added_none : (ts : List Tree) (n : Node) (d : ℕ) (xs : List ℕ) → IsAdded ts n d 0 xs xs
-added_none ts n d xs = record { kept = λ q h. h; needed = λ j h e. absurd (omega arith); only = λ q h. inl h }
-
 pub added_more : (ts : List Tree) (n : Node) (d k p : ℕ) (old mid new : List ℕ) → k < length n.parts → needs_image ts n d k ≡ true → p ≡ get_or n.parts k 0 → ((q : ℕ) → In q new ↔ ((q ≡ p) ⊎ In q mid)) → IsAdded ts n d k old mid → IsAdded ts n d (k + 1) old new
 added_more ts n d k p old mid new l e ep iff a =
     record {

@@ -4,6 +4,7 @@ use Rattle.core_expr.specs.declared.row.Row.{Row}
 use Rattle.core_expr.specs.Tree.{Tree}
 use Rattle.core_expr.specs.Heads.{kind_number, is_canonical_kind}
 use Rattle.core_expr.specs.Flat.{build}
+use Rattle.core_expr.specs.Coding.{onto}
 use Rattle.core_expr.specs.Nodes.{Node, node_numbers, node_fits, AreBelow, picked}
 
 -- the node over these parts
@@ -17,11 +18,6 @@ row_fits r = node_fits (kind_number r.kind) (node_numbers r.kind r.numbers) r.pa
 abbrev pub fed : ℕ → List Row → Bool
 fed n [] = true
 fed n (r ∷ rs) = (is_canonical_kind r.kind && row_fits r) && (nat_le r.parts n && fed (suc (n - r.parts)) rs)
-
--- the trees on the stack, the last uppermost
-abbrev pub onto : List Tree → List Tree → List Tree
-onto [] st = st
-onto (t ∷ ts) st = onto ts (t ∷ st)
 
 -- with the trees of these indices, the last uppermost, the nodes that are left complete t
 pub record IsRun (ts : List Tree) (stack : List ℕ) (rs : List Row) (t : Tree) : Type 0 where

@@ -1,5 +1,4 @@
-ghost use Rattle.std.specs.Prelude.{◌≡◌, ◌↔◌, ◌<◌, ◌≤◌, [], ℕ, length, IfOk, IfSome, IfNone, IsNone, IsTrue, slice_index_or};
-ghost use Rattle.core_expr.specs.Tree.{true_};
+ghost use Rattle.std.specs.Prelude.{◌≡◌, ◌↔◌, ◌<◌, ◌≤◌, [], ℕ, length, IfOk, IfSome, IfNone, IsNone, IsTrue};
 ghost use Rattle.core_expr.specs.Put.{inst, IsScoped};
 ghost use Rattle.core_expr.specs.Nodes.{node_fits, node_make};
 ghost use Rattle.core_expr.specs.Nodes.{AreBelow, picked};

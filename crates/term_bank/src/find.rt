@@ -1,7 +1,7 @@
-ghost use Rattle.std.specs.Prelude.{◌≡◌, ◌<◌, ℕ, length, IfSome, IfNone, slice_index_or};
-ghost use Rattle.term_bank.specs.Banks.{no_node, node_over};
-ghost use Rattle.term_bank.specs.Slots.{nodes_of, hashes_of, nexts_of, AreLinked, AreHashed, StandsAt, IsAbsent};
-ghost use Rattle.term_bank.specs.Chains.{hash_of, IsLinked};
+ghost use Rattle.std.specs.Prelude.{◌≡◌, ◌<◌, length, IfSome, IfNone};
+ghost use Rattle.term_bank.specs.Banks.{node_over};
+ghost use Rattle.term_bank.specs.Slots.{AreLinked, AreHashed, StandsAt, IsAbsent};
+ghost use Rattle.term_bank.specs.Chains.{hash_of};
 
 use crate::node::{Slot, agrees};
 

@@ -1,12 +1,11 @@
-ghost use Rattle.std.specs.Prelude.{◌≡◌, ◌<◌, ◌≤◌, ◌∷◌, [], ◌++◌, ℕ, length, IfOk, OnErr, OnOk, IsTrue, slice_index, slice_index_or, vec_len};
+ghost use Rattle.std.specs.Prelude.{◌≡◌, ◌<◌, ◌∷◌, [], ◌++◌, ℕ, length, IfOk, OnErr, IsTrue, slice_index};
 ghost use Rattle.core_expr.specs.Nodes.{AreBelow, picked};
-ghost use Rattle.term_bank.specs.Banks.{no_node, node_over};
+ghost use Rattle.term_bank.specs.Banks.{node_over};
 ghost use Rattle.core_expr.specs.Nodes.{node_fits, node_kind};
 ghost use Rattle.core_expr.specs.Loose.{loose};
 ghost use Rattle.term_bank.specs.Loose.{is_binder};
-ghost use Rattle.term_bank.specs.Slots.{nodes_of, hashes_of, nexts_of, reaches_of, reach_count, trees, IsHeld, AreLinked, IsAbsent, AreReached};
-ghost use Rattle.term_bank.specs.Chains.{hash_of, IsLinked};
-ghost use Rattle.core_expr.specs.Tree.{true_};
+ghost use Rattle.term_bank.specs.Slots.{nodes_of, hashes_of, reaches_of, reach_count, trees, IsHeld, AreLinked, IsAbsent, AreReached};
+ghost use Rattle.term_bank.specs.Chains.{hash_of};
 ghost use Rattle.term_bank.specs.Loose.{most_loose, loose_over};
 
 use crate::node::{BankNode, Slot};

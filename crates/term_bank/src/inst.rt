@@ -1,5 +1,4 @@
 ghost use Rattle.std.specs.Prelude.{◌≡◌, ◌<◌, [], true, length, IfOk, OnOk, slice_index_or};
-ghost use Rattle.core_expr.specs.Tree.{true_};
 ghost use Rattle.core_expr.specs.Put.{inst, IsScoped};
 ghost use Rattle.core_expr.specs.Nodes.{AreBelow};
 ghost use Rattle.term_bank.specs.Banks.{IsDistinct, Extends, HasTree, tree_at};

@@ -1,5 +1,4 @@
-ghost use Rattle.std.specs.Prelude.{◌≡◌, ◌↔◌, ◌+◌, ◌*◌, ◌%◌, ◌^◌, ◌<◌, ℕ, IsTrue, length, fold};
-ghost use Rattle.core_expr.specs.Nodes.{Node};
+ghost use Rattle.std.specs.Prelude.{◌≡◌, ◌↔◌, ◌*◌, ◌^◌, ◌<◌, IsTrue, fold};
 ghost use Rattle.term_bank.specs.Slots.{node_of};
 ghost use Rattle.term_bank.specs.Chains.{mixed, hash_of};
 ghost use Rattle.term_bank.specs.Banks.{node_over};
