@@ -43,11 +43,11 @@ use Rattle.layout_parser.proofs.ChainLaws.{same-some}
 -- ---- where a fault of the operators stands
 
 -- the operator of the piece stands at a token of the list
-abbrev PieceIn : Tokens → Piece → Type 0
+abbrev pub PieceIn : Tokens → Piece → Type 0
 PieceIn ts x = (p : Place) → place_of x ≡ Some p → StandsIn ts p
 
 -- so does each operator
-abbrev PlacedIn : Tokens → List Piece → Type 0
+abbrev pub PlacedIn : Tokens → List Piece → Type 0
 PlacedIn ts [] = Unit {0}
 PlacedIn ts (x ∷ xs) = PieceIn ts x × PlacedIn ts xs
 
@@ -75,12 +75,12 @@ wrong-placed ts t (x ∷ xs) p h e = at-piece ts x (is_right (grown t x)) (first
 
 -- ---- chains
 
-abbrev EndKeeps : Tokens → Result Tokens Fault → Type 0
+abbrev pub EndKeeps : Tokens → Result Tokens Fault → Type 0
 EndKeeps ts (Ok rest) = LeftOf ts rest
 EndKeeps ts (Err e) = FaultIn is_of_expressions ts e
 
 -- the operators of the chain stand at tokens of the list, and so does the fault at which it breaks off
-record ChainKept (ts : Tokens) (c : Chain) : Type 0 where
+pub record ChainKept (ts : Tokens) (c : Chain) : Type 0 where
   pub placed : PlacedIn ts c.0
   pub end : EndKeeps ts c.1
 
@@ -92,10 +92,10 @@ end-behind ts mid (Err e) l h = fault-behind l h
 may : (k : Kind) → is_of_expressions k ≡ true → is_of_expressions k ≡ true
 may k e = e
 
-abbrev Keeping : {A : Type 0} → Reader A → Type 0
+abbrev pub Keeping : {A : Type 0} → Reader A → Type 0
 Keeping p = IsKeeping is_of_expressions p
 
-abbrev Opens : Tokens → Type 0
+abbrev pub Opens : Tokens → Type 0
 Opens ts = is_last (first ts).tok ≡ false
 
 finished-kept : (ts : Tokens) (c : Chain) → ChainKept ts c → Kept is_of_expressions ts (rule.finished c)

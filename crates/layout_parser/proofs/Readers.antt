@@ -381,7 +381,7 @@ module _ (left : ℕ) (inner : ChainReader) (law : OneRightTree) (good : Good in
   unfolding rule.bound
   bound s ts mid g e = got {o = names s stop.Bound ts} e (λ ns t1 e1 f1. with-set s ns ts t1 g mid (names-read s stop.Bound ts ns t1 e1) f1)
 
-  abbrev Bounded : Setting → List Group → Tokens → Tokens → Type 0
+  abbrev pub Bounded : Setting → List Group → Tokens → Tokens → Type 0
   Bounded s gs ts rest = ListRead s.region s.has_at (map spell.group_of) (spell.bound s.region s.has_at) spell.comma gs ts rest
 
   pub bounds : (s : Setting) (ns : List Decl) (ts t1 : Tokens) (gs : List Group) (rest : Tokens) → Named s ns ts t1 → rule.bounds left inner s ns t1 ≡ Ok (gs, rest) → Bounded s gs ts rest
