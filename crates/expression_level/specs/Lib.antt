@@ -1,0 +1,3 @@
+pub mod Levels
+pub mod Primed
+pub mod Weights

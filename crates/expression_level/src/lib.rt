@@ -1,0 +1,2 @@
+//! The level of an expression, and which parameters a definition primes.
+#![tactic(auto)]
