@@ -1,5 +1,6 @@
 -- Levels in one pass: how the level of an expression, and what it asks for, depend on the levels of the parameters round it.
--- A parameter is known by its position among those that are bound, the outermost first.
+-- A parameter is known by its position among those that are bound, the outermost first. A use says how one counts: as it is, raised
+-- as by a prime, and the greatest level that is lawful for it.
 use Rattle.std.specs.Prelude.{ℕ, zero, suc, ◌+◌, Bool, true, false, ◌||◌, ◌&&◌, nat_lt, if◌then◌else◌, List, [], ◌∷◌, ◌++◌, map, take, drop, length, Option, Some, None, codes}
 use Rattle.tla_ast.specs.declared.place.Place.{Place}
 use Rattle.tla_ast.specs.declared.tree.Decl.{Decl}
@@ -11,13 +12,8 @@ use Rattle.plain_syntax.specs.Plain.Updates.{end_updates, update}
 use Rattle.plain_syntax.specs.Plain.Keys.{end_keys, key, field_key}
 use Rattle.plain_syntax.specs.Plain.Groups.{end_groups, free, within}
 use Rattle.plain_syntax.specs.Plain.Defs.{end_defs, def}
+use Rattle.expression_level.specs.declared.weight.Use.{Use}
 use Rattle.expression_level.specs.Levels.{is_word, higher, greatest, raised, bind, has_fault, fault_if, Applied}
-
--- how a parameter counts: as it is, raised as by a prime, and the greatest level that is lawful for it
-pub record Use : Type 0 where
-  pub plain : Bool
-  pub raised : Bool
-  pub limit : Option ℕ
 
 -- the level where all parameters have level 0; how each parameter counts; the faults that stand whatever they have
 pub record Weight : Type 0 where
@@ -176,9 +172,12 @@ parameter n = defined (suc n) 0 (uses_of n) false
 abbrev pub definition : ℕ → ℕ → Weight → Known
 definition d n w = defined d w.least (take (d + n) w.uses) (has_fault w.faults)
 
--- what an expression stands for that is used elsewhere
+abbrev pub unlimited : Use → Use
+unlimited u = record { plain = u.plain; raised = u.raised; limit = None }
+
+-- what `@` stands for
 abbrev pub result_so_far : ℕ → Weight → Known
-result_so_far d w = defined d w.least (take d w.uses) false
+result_so_far d w = defined d w.least (map unlimited (take d w.uses)) false
 
 -- what is asked of a parameter of an argument where the argument must not be over a limit
 abbrev pub passed_limit : Option ℕ → Use → Option ℕ
@@ -206,7 +205,7 @@ abbrev pub at_name : Place → Known → List Weight → Weight
 at_name p arguments ws = total ws
 at_name p (defined d l us b) ws =
     with_fault (b || put_breaks (drop d us) ws) p
-      (join (fixed 0 (total ws)) (join (record { least = l; uses = take d us; faults = [] }) (put (drop d us) ws)))
+    (join (fixed 0 (total ws)) (join (record { least = l; uses = take d us; faults = [] }) (put (drop d us) ws)))
 
 abbrev pub Env : Type 0
 Env = ℕ → Known
