@@ -1,0 +1,3 @@
+mod Evaluation
+mod Agreement
+mod Linear
