@@ -1,3 +1,4 @@
 mod Evaluation
 mod Agreement
 mod Linear
+mod Uses
