@@ -2,3 +2,5 @@ mod Evaluation
 mod Agreement
 mod Linear
 mod Uses
+mod Puts
+mod Locals

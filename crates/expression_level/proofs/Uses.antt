@@ -1,9 +1,10 @@
 -- Loops over uses, one step after another.
-use Rattle.std.proofs.Common.{◌≡◌, ℕ, zero, suc, ◌+◌, ◌≤◌, ◌<◌, List, [], ◌∷◌, ◌++◌, map, take, drop, length, get_or, refl, sym, ap, subst, ◌∙◌, arith, add-one}
+use Rattle.std.proofs.Common.{◌≡◌, ℕ, zero, suc, ◌+◌, ◌≤◌, ◌<◌, Bool, ◌||◌, nat_lt, if◌then◌else◌, Option, Some, None, List, [], ◌∷◌, ◌++◌, append_assoc, append-nil, map, take, drop, length, get_or, refl, sym, ap, subst, ◌∙◌, arith, add-one}
 use lib.ListN.{set}
 use Rattle.std.proofs.lemmas.List.{length-take}
 use Rattle.expression_level.specs.declared.weight.Use.{Use}
-use Rattle.expression_level.specs.Weights.{both, all_uses}
+use Rattle.expression_level.specs.Weights.{Weight, both, stricter, all_uses, nothing, join}
+use Rattle.expression_level.proofs.Evaluation.{higher-zero, higher-none, higher-assoc, or-assoc}
 
 map-next : (f : Use → Use) (xs : List Use) (i : ℕ) (d : Use) → i < length (map f (take i xs) ++ drop i xs)
     → set (map f (take i xs) ++ drop i xs) i (f (get_or (map f (take i xs) ++ drop i xs) i d)) ≡ map f (take (suc i) xs) ++ drop (suc i) xs
@@ -32,7 +33,7 @@ both-next (u ∷ us) [] i d e h k = absurd (grind arith)
 both-next (u ∷ us) (v ∷ vs) zero d e h k = ap (λ l. both u v ∷ l) (sym (all-with-none us))
 both-next (u ∷ us) (v ∷ vs) (suc i) d e h k = ap (λ l. both u v ∷ l) (both-next us vs i d e (omega (arith, h)) (omega (arith, k)))
 
-last-next : (vs : List Use) (i : ℕ) (e : Use) → i < length vs → take i vs ++ get_or vs i e ∷ [] ≡ take (suc i) vs
+pub last-next : {X : Type 0} (vs : List X) (i : ℕ) (e : X) → i < length vs → take i vs ++ get_or vs i e ∷ [] ≡ take (suc i) vs
 last-next [] i e h = absurd (grind arith)
 last-next (v ∷ vs) zero e h = refl
 last-next (v ∷ vs) (suc i) e h = ap (λ l. v ∷ l) (last-next vs i e (omega (arith, h)))
@@ -62,3 +63,34 @@ join-more us vs now i e n h k =
 
 pub none-joined : (us : List Use) → us ≡ all_uses us []
 none-joined us = sym (all-with-none us)
+
+-- ---- weights side by side
+
+stricter-assoc : (a b c : Option ℕ) → stricter (stricter a b) c ≡ stricter a (stricter b c)
+stricter-assoc None b c = refl
+stricter-assoc (Some k) None c = refl
+stricter-assoc (Some k) (Some m) None = refl
+stricter-assoc (Some k) (Some m) (Some n) = ap Some (lower-assoc k m n)
+  where
+    lower-assoc : (k m n : ℕ) → (if nat_lt (if nat_lt k m then k else m) n then (if nat_lt k m then k else m) else n) ≡ (if nat_lt k (if nat_lt m n then m else n) then k else (if nat_lt m n then m else n))
+    lower-assoc k m n = grind arith
+
+both-assoc : (u v w : Use) → both (both u v) w ≡ both u (both v w)
+both-assoc u v w i = record { plain = or-assoc u.plain v.plain w.plain i; raised = or-assoc u.raised v.raised w.raised i; limit = stricter-assoc u.limit v.limit w.limit i }
+
+uses-assoc : (us vs ws : List Use) → all_uses (all_uses us vs) ws ≡ all_uses us (all_uses vs ws)
+uses-assoc [] vs ws = refl
+uses-assoc (u ∷ us) [] ws = refl
+uses-assoc (u ∷ us) (v ∷ vs) [] = refl
+uses-assoc (u ∷ us) (v ∷ vs) (w ∷ ws) = λ i. both-assoc u v w i ∷ uses-assoc us vs ws i
+
+pub join-assoc : (x y z : Weight) → join (join x y) z ≡ join x (join y z)
+join-assoc x y z i = record {
+  least = higher-assoc x.least y.least z.least i; uses = uses-assoc x.uses y.uses z.uses i; faults = append_assoc x.faults y.faults z.faults i
+}
+
+pub nothing-joined : (x : Weight) → join nothing x ≡ x
+nothing-joined x i = record { least = higher-zero x.least i; uses = x.uses; faults = x.faults }
+
+pub joined-nothing : (x : Weight) → join x nothing ≡ x
+joined-nothing x i = record { least = higher-none x.least i; uses = all-with-none x.uses i; faults = append-nil x.faults i }

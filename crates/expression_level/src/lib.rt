@@ -7,6 +7,7 @@
 
 mod known;
 mod levels;
+mod names;
 mod primed;
 mod weight;
 
