@@ -7,7 +7,7 @@ use Rattle.tla_ast.specs.declared.tree.Node.{Node}
 use Rattle.tla_ast.specs.declared.tree.Form.{Form, out-Form}
 use Rattle.tla_ast.specs.declared.tree.Form.TheOpen.{Form-F}
 use Rattle.tla_ast.specs.declared.tree.Path.{Path}
-use Rattle.plain_syntax.specs.Plain.{Term, Terms, Defs}
+use Rattle.plain_syntax.specs.Plain.{Term, Terms, Groups, Keys, Defs}
 use Rattle.plain_syntax.specs.Plain.Term.{term}
 use Rattle.plain_syntax.specs.Plain.Terms.{none, part}
 use Rattle.plain_syntax.specs.Plain.Defs.{end_defs, def}
@@ -15,7 +15,7 @@ use Rattle.plain_syntax.specs.Order.{is_operator}
 use Rattle.plain_syntax.specs.Syntax.{term_of, keys_of, updates_of}
 use Rattle.symbol_table.specs.Symbols.{symbol_at}
 use Rattle.expression_level.specs.Levels.{bound}
-use Rattle.expression_level.specs.Weights.{Known, Env, Weight, known, parameter, definition, weigh, weigh_each, updates, with_parameters as parameters_env, prefix_weight, infix_weight, form_weight, lifted, limited, fixed, total}
+use Rattle.expression_level.specs.Weights.{Known, Env, Weight, known, parameter, definition, weigh, weigh_each, updates, sets, keys, bodies, nothing, action_weight, with_parameters as parameters_env, prefix_weight, infix_weight, form_weight, lifted, limited, fixed, total}
 use Rattle.expression_level.specs.Weights.Known.{arguments}
 use Rattle.expression_level.specs.declared.names.Local.{Local}
 
@@ -117,3 +117,21 @@ turned s d k stack (term f ts p) = elim (is_operator f) [
 -- the keys and the values of updates
 abbrev pub updates_on : Names → ℕ → Known → List Path → List Node → Weight → Weight
 updates_on s d k ps ns x = updates (means_in s) d (env_of s) k x (updates_of (map keys_of ps) (map term_of ns))
+
+abbrev pub excepted : Names → ℕ → Known → List Path → List Node → Weight
+excepted s d k ps [] = nothing
+excepted s d k ps (n ∷ ns) = updates_on s d k ps ns (weight_of s d k (term_of n))
+
+abbrev pub sets_of : Names → ℕ → Known → Groups → Weight
+sets_of s d k gs = sets (means_in s) d (env_of s) k gs
+
+abbrev pub keys_on : Names → ℕ → Known → Keys → Weight
+keys_on s d k ks = keys (means_in s) d (env_of s) k ks
+
+abbrev pub bodies_of : Names → ℕ → Known → Defs → Weight
+bodies_of s d k ds = bodies (means_in s) d (env_of s) k ds
+
+-- an action with what stands behind it as its subscript
+abbrev pub acted : Names → ℕ → Known → Place → Terms → Weight
+acted s d k p none = fixed 2 nothing
+acted s d k p (part t ts) = action_weight p (weight_of s d k t) (total (weights_of s d k ts))

@@ -109,26 +109,6 @@ impl Known {
         })
     }
 
-    /// A definition among so many parameters, which counts as many with its own; what its body weighs.
-    pub fn definition(depth: usize, inner: usize, body: Weight) -> Known
-        ensures { result ≡ seen.defined depth body.least (take inner body.uses) (has_fault body.faults) }
-    {
-        let Weight {
-            least,
-            mut uses,
-            faults,
-        } = body;
-        uses.truncate(inner);
-        Known {
-            definition: Some(Definition {
-                depth,
-                least,
-                uses,
-                has_fault: !faults.is_empty(),
-            }),
-        }
-    }
-
     /// What `@` stands for, where the result so far weighs this, among so many parameters.
     pub fn result_so_far(alloc: Global, depth: usize, weight: &Weight) -> Result<Known, Memory>
         ensures { IfOk result (λ known. known ≡ spec.result_so_far depth weight.now) }
@@ -145,6 +125,38 @@ impl Known {
             }),
         })
     }
+}
+
+/// A definition among so many parameters, which are so many with its own, whose body weighs this; and what the body asks of the
+/// parameters round it.
+pub fn defined(alloc: Global, depth: usize, inner: usize, body: Weight) -> Result<(Known, Weight), Memory>
+    ensures known { IfOk result (λ made. made.0
+        ≡ seen.defined depth body.least (take inner body.uses) (has_fault body.faults)) }
+    ensures asked { IfOk result (λ made. made.1 ≡ spec.asked_round depth body) }
+{
+    let Weight {
+        least,
+        mut uses,
+        faults,
+    } = body;
+    let mut round = Vec::new(alloc);
+    round.extend_from_slice(front(&uses, depth))?;
+    change_all(&mut round, Change::Kept);
+    uses.truncate(inner);
+    let known = Known {
+        definition: Some(Definition {
+            depth,
+            least,
+            uses,
+            has_fault: !faults.is_empty(),
+        }),
+    };
+    let asked = Weight {
+        least: 0,
+        uses: round,
+        faults,
+    };
+    Ok((known, asked))
 }
 
 /// Several expressions together.

@@ -5,10 +5,12 @@
 //! once, from its body, as a weight that is linear in its parameters; no body is looked into again.
 #![tactic(auto)]
 
+mod form;
 mod known;
 mod levels;
 mod names;
 mod primed;
+mod walk;
 mod weight;
 
 pub use levels::{Judged, Levels};
