@@ -4,3 +4,4 @@ mod Linear
 mod Uses
 mod Puts
 mod Locals
+mod Walks

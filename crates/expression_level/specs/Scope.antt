@@ -1,9 +1,10 @@
 -- The names that are known at a place of an expression: what is declared, and before it the parameters and definitions round the place.
-use Rattle.std.specs.Prelude.{ℕ, suc, ◌+◌, ◌-◌, Bool, true, false, List, [], ◌∷◌, ◌++◌, map, take, drop, length, Option, Some, None, get_or, nat_eq, if◌then◌else◌}
+use Rattle.std.specs.Prelude.{◌≡◌, ℕ, suc, ◌+◌, ◌-◌, Bool, true, false, List, [], ◌∷◌, ◌++◌, map, take, drop, length, Option, Some, None, get_or, nat_eq, if◌then◌else◌}
 use Rattle.std.specs.Borrow.{Bor}
 use Rattle.tla_ast.specs.declared.place.Place.{Place}
 use Rattle.tla_ast.specs.declared.tree.Decl.{Decl}
-use Rattle.tla_ast.specs.declared.tree.Node.{Node}
+use Rattle.tla_ast.specs.declared.tree.Node.{Node, out-Node}
+use Rattle.tla_ast.specs.declared.tree.Form.TheVariants as form
 use Rattle.tla_ast.specs.declared.tree.Form.{Form, out-Form}
 use Rattle.tla_ast.specs.declared.tree.Form.TheOpen.{Form-F}
 use Rattle.tla_ast.specs.declared.tree.Path.{Path}
@@ -135,3 +136,11 @@ bodies_of s d k ds = bodies (means_in s) d (env_of s) k ds
 abbrev pub acted : Names → ℕ → Known → Place → Terms → Weight
 acted s d k p none = fixed 2 nothing
 acted s d k p (part t ts) = action_weight p (weight_of s d k t) (total (weights_of s d k ts))
+
+abbrev pub domain_weight : Names → ℕ → Known → Option Node → Weight
+domain_weight s d k None = nothing
+domain_weight s d k (Some n) = weight_of s d k (term_of n)
+
+-- an EXCEPT
+abbrev pub IsExcept : Node → Type 0
+IsExcept n = (ps : List Path) × ((out-Node n).form ≡ form.Except ps)

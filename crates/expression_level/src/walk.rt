@@ -3,6 +3,8 @@
 ghost use Rattle.std.specs.Prelude.{◌≡◌, ◌+◌, [], ◌∷◌, map, IfOk, OnOk};
 ghost use Rattle.tla_ast.specs.declared.tree.Node.{out-Node};
 ghost use Rattle.tla_ast.specs.declared.tree.Def.{out-Def};
+ghost use Rattle.tla_ast.specs.declared.tree.Group.{out-Group};
+ghost use Rattle.tla_ast.specs.declared.tree.Path.{out-Path};
 ghost use Rattle.plain_syntax.specs.Syntax.{term_of, terms_of, each_group, each_key, each_def};
 ghost use Rattle.expression_level.specs.Scope as spec;
 ghost use Rattle.expression_level.specs.Weights as weights;
@@ -14,7 +16,6 @@ use crate::weight::Weight;
 use core_expr::Memory;
 use plain_syntax::{is_operator, operator_order};
 use std::alloc::Global;
-use std::slice;
 use tla_ast::{Def, Form, Group, Key, Node, Path};
 
 /// The weight of an expression among so many parameters, where `@` stands for what is known. Operators are met in a loop.
@@ -24,8 +25,9 @@ pub fn weigh(alloc: Global, names: &mut Names<'_>, depth: usize, at: &Known, nod
     ensures weight { IfOk result (λ weight. weight ≡ spec.weight_of names.old depth at.now (term_of node.now)) }
 {
     let mut stack = Vec::new(alloc);
-    for next in operator_order(alloc, node)? {
-        turn(alloc, names, depth, at, next, &mut stack)?;
+    let nodes = operator_order(alloc, node)?;
+    for next in nodes.as_slice() {
+        turn(alloc, names, depth, at, *next, &mut stack)?;
     }
     match stack.pop() {
         Some(weight) => Ok(weight),
@@ -40,11 +42,12 @@ fn turn(alloc: Global, names: &mut Names<'_>, depth: usize, at: &Known, node: &N
     ensures turned { OnOk result (stack.new.items
         ≡ spec.turned names.old depth at.now stack.old.items (term_of node.now)) }
 {
-    let weight = if is_operator(&node.form) {
-        operate(alloc, stack, &node.form, node.place, node.parts.len())?
-    } else {
-        leaf(alloc, names, depth, at, node)?
-    };
+    if is_operator(&node.form) {
+        let weight = operate(alloc, stack, &node.form, node.place, node.parts.len())?;
+        stack.push(weight)?;
+        return Ok(());
+    }
+    let weight = leaf(alloc, names, depth, at, node)?;
     stack.push(weight)?;
     Ok(())
 }
@@ -60,11 +63,26 @@ fn leaf(alloc: Global, names: &mut Names<'_>, depth: usize, at: &Known, node: &N
         Form::Call(_) => name(alloc, names, depth, at, node),
         Form::BoxAct => action(alloc, names, depth, at, node),
         Form::AngleAct => action(alloc, names, depth, at, node),
-        Form::At => at_name(alloc, Some(at), Vec::new(alloc), node.place),
-        Form::Except(paths) => except(alloc, names, depth, at, paths.as_slice(), node.parts.as_slice()),
-        Form::Quant { all: _, groups } => bounded(alloc, names, depth, at, groups.as_slice(), node),
-        Form::Choose(group) => bounded(alloc, names, depth, at, slice::from_ref(group), node),
-        Form::Let(defs) => local(alloc, names, depth, at, defs.as_slice(), node),
+        Form::At => {
+            let none = Vec::new(alloc);
+            at_name(alloc, Some(at), none, node.place)
+        }
+        Form::Except(_) => except(alloc, names, depth, at, node),
+        Form::Quant { all: _, groups } => {
+            let before = sets(alloc, names, depth, at, groups.as_slice())?;
+            behind(alloc, names, depth, at, before, node)
+        }
+        Form::Choose(group) => {
+            let before = domain(alloc, names, depth, at, group)?;
+            behind(alloc, names, depth, at, before, node)
+        }
+        Form::Let(defs) => {
+            let mark = names.mark();
+            let before = definitions(alloc, names, depth, at, defs.as_slice())?;
+            let all = behind(alloc, names, depth, at, before, node)?;
+            names.leave(mark);
+            Ok(all)
+        }
         _ => {
             let parts = each(alloc, names, depth, at, node.parts.as_slice())?;
             let mut all = total(alloc, parts)?;
@@ -119,6 +137,19 @@ fn action(alloc: Global, names: &mut Names<'_>, depth: usize, at: &Known, node: 
     act(taken, subscript, node.place)
 }
 
+/// The set of a group of bounds.
+#[cycle(weigh)]
+fn domain(alloc: Global, names: &mut Names<'_>, depth: usize, at: &Known, group: &Group) -> Result<Weight, Memory>
+    ensures same { OnOk result (names.new ≡ names.old) }
+    ensures weight { IfOk result (λ weight. weight
+        ≡ spec.domain_weight names.old depth at.now (out-Group group.now).domain) }
+{
+    match &group.domain {
+        None => Ok(Weight::nothing(alloc)),
+        Some(set) => weigh(alloc, names, depth, at, set.get()),
+    }
+}
+
 /// The sets of bounds.
 #[cycle(weigh)]
 fn sets(alloc: Global, names: &mut Names<'_>, depth: usize, at: &Known, groups: &[Group]) -> Result<Weight, Memory>
@@ -127,74 +158,82 @@ fn sets(alloc: Global, names: &mut Names<'_>, depth: usize, at: &Known, groups: 
 {
     let mut all = Weight::nothing(alloc);
     for group in groups {
-        if let Some(set) = &group.domain {
-            let weight = weigh(alloc, names, depth, at, set.get())?;
-            all.join(weight)?;
-        }
+        let weight = domain(alloc, names, depth, at, group)?;
+        all.join(weight)?;
     }
     Ok(all)
 }
 
-/// An expression with bounds before its parts.
+/// The parts of a node, behind what stands before them.
 #[cycle(weigh)]
-fn bounded(alloc: Global, names: &mut Names<'_>, depth: usize, at: &Known, groups: &[Group], node: &Node) -> Result<Weight, Memory>
+fn behind(alloc: Global, names: &mut Names<'_>, depth: usize, at: &Known, before: Weight, node: &Node) -> Result<Weight, Memory>
     ensures same { OnOk result (names.new ≡ names.old) }
-    ensures weight { IfOk result (λ weight. weight
-        ≡ weights.join (spec.sets_of names.old depth at.now (each_group groups.now))
-          (weights.total (spec.weights_of names.old depth at.now (terms_of (map term_of (out-Node node.now).parts))))) }
+    ensures weight { IfOk result (λ weight. weight ≡ weights.join before
+        (weights.total (spec.weights_of names.old depth at.now (terms_of (map term_of (out-Node node.now).parts))))) }
 {
-    let mut all = sets(alloc, names, depth, at, groups)?;
     let parts = each(alloc, names, depth, at, node.parts.as_slice())?;
+    let mut all = before;
     all.join(total(alloc, parts)?)?;
     Ok(all)
 }
 
-/// The keys of an update.
+/// A key of an update.
 #[cycle(weigh)]
-fn keys(alloc: Global, names: &mut Names<'_>, depth: usize, at: &Known, path: &[Key]) -> Result<Weight, Memory>
+fn key(alloc: Global, names: &mut Names<'_>, depth: usize, at: &Known, key: &Key) -> Result<Weight, Memory>
     ensures same { OnOk result (names.new ≡ names.old) }
-    ensures weight { IfOk result (λ weight. weight ≡ spec.keys_on names.old depth at.now (each_key path.now)) }
+    ensures weight { IfOk result (λ weight. weight ≡ spec.keys_on names.old depth at.now (each_key (key.now ∷ []))) }
 {
-    let mut all = Weight::nothing(alloc);
-    for key in path {
-        if let Key::At(node) = key {
-            let weight = weigh(alloc, names, depth, at, node)?;
-            all.join(weight)?;
+    match key {
+        Key::At(node) => weigh(alloc, names, depth, at, node),
+        Key::Field(_) => {
+            let none = Weight::nothing(alloc);
+            Ok(none)
         }
     }
-    Ok(all)
 }
 
-/// The updates of an EXCEPT, after the result so far.
+/// The keys of an update.
 #[cycle(weigh)]
-fn updates(alloc: Global, names: &mut Names<'_>, depth: usize, at: &Known, paths: &[Path], values: &[Node], function: Weight) -> Result<Weight, Memory>
+fn keys(alloc: Global, names: &mut Names<'_>, depth: usize, at: &Known, path: &Path) -> Result<Weight, Memory>
     ensures same { OnOk result (names.new ≡ names.old) }
     ensures weight { IfOk result (λ weight. weight
-        ≡ spec.updates_on names.old depth at.now paths.now values.now function) }
+        ≡ spec.keys_on names.old depth at.now (each_key (out-Path path.now).keys)) }
 {
-    let mut all = function;
-    for index in 0..paths.len().min(values.len()) {
-        let path = &paths[index];
-        let found = keys(alloc, names, depth, at, path.keys.as_slice())?;
-        all.join(found)?;
-        let now = Known::result_so_far(alloc, depth, &all)?;
-        let value = weigh(alloc, names, depth, &now, &values[index])?;
-        all.join(value)?;
+    let mut all = Weight::nothing(alloc);
+    for part in path.keys.as_slice() {
+        let weight = key(alloc, names, depth, at, part)?;
+        all.join(weight)?;
     }
     Ok(all)
 }
 
-/// An EXCEPT.
+/// An EXCEPT: the function and the updates.
 #[cycle(weigh)]
-fn except(alloc: Global, names: &mut Names<'_>, depth: usize, at: &Known, paths: &[Path], parts: &[Node]) -> Result<Weight, Memory>
+fn except(alloc: Global, names: &mut Names<'_>, depth: usize, at: &Known, node: &Node) -> Result<Weight, Memory>
     ensures same { OnOk result (names.new ≡ names.old) }
-    ensures weight { IfOk result (λ weight. weight ≡ spec.excepted names.old depth at.now paths.now parts.now) }
+    ensures weight { spec.IsExcept node.now → IfOk result (λ weight. weight
+        ≡ spec.weight_of names.old depth at.now (term_of node.now)) }
 {
-    let Some((function, values)) = parts.split_first() else {
+    let Form::Except(paths) = &node.form else {
         return Ok(Weight::nothing(alloc));
     };
-    let weight = weigh(alloc, names, depth, at, function)?;
-    updates(alloc, names, depth, at, paths, values, weight)
+    let Some((function, values)) = node.parts.as_slice().split_first() else {
+        let empty = Weight::nothing(alloc);
+        return Ok(empty);
+    };
+    let mut all = weigh(alloc, names, depth, at, function)?;
+    let paths = paths.as_slice();
+    for (index, value) in values.iter().enumerate() {
+        if index >= paths.len() {
+            return Ok(all);
+        }
+        let found = keys(alloc, names, depth, at, &paths[index])?;
+        all.join(found)?;
+        let now = Known::result_so_far(alloc, depth, &all)?;
+        let weight = weigh(alloc, names, depth, &now, value)?;
+        all.join(weight)?;
+    }
+    Ok(all)
 }
 
 /// A definition of a LET, which is known from then on. Answers what its body asks of the parameters round it.
@@ -225,22 +264,5 @@ fn definitions(alloc: Global, names: &mut Names<'_>, depth: usize, at: &Known, d
         let asked = definition(alloc, names, depth, at, def)?;
         all.join(asked)?;
     }
-    Ok(all)
-}
-
-/// A LET.
-#[cycle(weigh)]
-fn local(alloc: Global, names: &mut Names<'_>, depth: usize, at: &Known, defs: &[Def], node: &Node) -> Result<Weight, Memory>
-    ensures same { OnOk result (names.new ≡ names.old) }
-    ensures weight { IfOk result (λ weight. weight
-        ≡ weights.join (spec.bodies_of names.old depth at.now (each_def defs.now))
-          (weights.total (spec.weights_of (spec.with_definitions depth at.now (each_def defs.now) names.old) depth
-            at.now (terms_of (map term_of (out-Node node.now).parts))))) }
-{
-    let mark = names.mark();
-    let mut all = definitions(alloc, names, depth, at, defs)?;
-    let parts = each(alloc, names, depth, at, node.parts.as_slice())?;
-    names.leave(mark);
-    all.join(total(alloc, parts)?)?;
     Ok(all)
 }
