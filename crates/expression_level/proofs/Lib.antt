@@ -5,3 +5,4 @@ mod Uses
 mod Puts
 mod Locals
 mod Walks
+mod Kept

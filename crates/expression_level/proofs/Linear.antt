@@ -61,7 +61,7 @@ breaks-padded [] n = refl
 breaks-padded (u ∷ us) zero = refl
 breaks-padded (u ∷ us) (suc n) = λ i. over-nothing u.limit i || breaks-padded us n i
 
-no-level : (us : List Use) → level_from us [] ≡ 0
+pub no-level : (us : List Use) → level_from us [] ≡ 0
 no-level [] = refl
 no-level (u ∷ us) = refl
 
@@ -104,7 +104,7 @@ cut-breaks (suc d) (x ∷ r) n [] args e = ap (λ m. breaks (take m []) (x ∷ (
 cut-breaks (suc d) (x ∷ r) n (u ∷ us) args e =
     ap (λ m. breaks (take m (u ∷ us)) (x ∷ (take d r ++ args))) (one-more d n) ∙ ap (λ b. is_over u.limit x || b) (cut-breaks d r n us args (omega (arith, e)))
 
-knows-definition : (r : List ℕ) (d n : ℕ) (f : List ℕ → Judged) (x : Weight) → length r ≡ d → ((args : List ℕ) → Stands (r ++ padded n args) (f args) x)
+pub knows-definition : (r : List ℕ) (d n : ℕ) (f : List ℕ → Judged) (x : Weight) → length r ≡ d → ((args : List ℕ) → Stands (r ++ padded n args) (f args) x)
     → Knows r (λ args. told (f args)) (definition d n x)
 knows-definition r d n f x e s = (
     omega (arith, e),
@@ -212,7 +212,7 @@ module _ (means : Place → Option ℕ) where
   abbrev pub Agree : List ℕ → ℕ → Levels → Env → ℕ → Known → Type 0
   Agree r d ls env a k = (length r ≡ d) × (KnowAll r ls env × Knows r (constantly a) k)
 
-  agree-inside : (r : List ℕ) (d : ℕ) (ls : Levels) (env : Env) (a : ℕ) (k : Known) (ps : List Decl) (args : List ℕ) → Agree r d ls env a k
+  pub agree-inside : (r : List ℕ) (d : ℕ) (ls : Levels) (env : Env) (a : ℕ) (k : Known) (ps : List Decl) (args : List ℕ) → Agree r d ls env a k
       → Agree (r ++ padded (length ps) args) (d + length ps) (l.with_parameters means ls ps args) (w.with_parameters means d env ps) a k
   agree-inside r d ls env a k ps args g =
       (length-with r d (length ps) args g.0, (knows-parameters ps args r d ls env g.0 g.1.0, knows-more r (padded (length ps) args) (constantly a) k g.1.1))

@@ -203,6 +203,13 @@ impl Weight {
         }
     }
 
+    /// The level where all parameters have level 0.
+    pub fn level(&self) -> u64
+        ensures { result ≡ self.now.least }
+    {
+        self.least
+    }
+
     /// Two expressions side by side.
     pub fn join(&mut self, mut other: Weight) -> Result<(), Memory>
         ensures { OnOk result (self.new ≡ spec.join self.old other) }

@@ -5,7 +5,7 @@ use Rattle.tla_ast.specs.declared.tree.Group.{out-Group}
 use Rattle.tla_ast.specs.declared.tree.Path.{out-Path}
 use Rattle.plain_syntax.specs.Syntax.{term_of, terms_of, each_group, each_key, each_def}
 use Rattle.expression_level.specs.Levels.{has_fault}
-use Rattle.expression_level.specs.Weights.{join, total, action_weight, asked_round, definition, result_so_far}
+use Rattle.expression_level.specs.Weights.{at_name, join, total, action_weight, asked_round, definition, result_so_far}
 use Rattle.expression_level.specs.Weights.Known.{defined}
 use Rattle.expression_level.specs.Scope.{turned, weight_of, weights_of, sets_of, keys_on, bodies_of, updates_on, domain_weight, by_form, acted, left, with_name, with_parameters, with_definitions, body_weight}
 use Rattle.expression_level.proofs.Uses.{joined-nothing}
@@ -73,7 +73,9 @@ leaf-returns-in-AngleAct-clause-weight t c =
     because _ _ c.action-in-AngleAct.result (weighs-angle c.args.names.now c.args.depth c.args.at.now c.args.node.now c.in-AngleAct.is) c.action-in-AngleAct.ensures.weight
 
 pub leaf-returns-in-At-clause-weight : goal.leaf-returns-in-At-clause-weight
-leaf-returns-in-At-clause-weight t c = ?
+leaf-returns-in-At-clause-weight t c =
+    let p = (out-Node c.args.node.now).place in
+    because _ _ c.at_name.result (weighs-at c.args.names.now c.args.depth c.args.at.now c.args.node.now c.in-At.is ∙ ap (at_name p c.args.at.now) (sym c.new-none.ensures.items)) c.at_name.ensures
 
 pub leaf-returns-in-Except-clause-weight : goal.leaf-returns-in-Except-clause-weight
 leaf-returns-in-Except-clause-weight t c = c.except.ensures.weight (_, c.in-Except.is)
