@@ -1,0 +1,278 @@
+use Rattle.std.proofs.Common.{◌≡◌, ◌≤◌, ◌<◌, ◌+◌, ◌++◌, [], ◌∷◌, map, take, drop, fold, length, slice_index_or, refl, sym, ap, subst, ◌∙◌, arith, append-nil}
+use Rattle.tla_ast.specs.declared.tree.Node.{out-Node, size-Node}
+use Rattle.tla_ast.specs.declared.tree.Def.{out-Def}
+use Rattle.tla_ast.specs.declared.tree.Group.{out-Group}
+use Rattle.tla_ast.specs.declared.tree.Path.{out-Path}
+use Rattle.plain_syntax.specs.Syntax.{term_of, terms_of, each_group, each_key, each_def}
+use Rattle.expression_level.specs.Levels.{has_fault}
+use Rattle.expression_level.specs.Weights.{at_name, join, total, action_weight, asked_round, definition, result_so_far}
+use Rattle.expression_level.specs.Weights.Known.{defined}
+use Rattle.expression_level.specs.Scope.{turned, weight_of, weights_of, sets_of, keys_on, bodies_of, updates_on, domain_weight, by_form, acted, left, with_name, with_parameters, with_definitions, body_weight}
+use Rattle.expression_level.proofs.Uses.{joined-nothing}
+use Rattle.expression_level.proofs.Locals.{definitions-left, parameters-left, weigh-with-parameters}
+use Rattle.expression_level.proofs.Walks.{in-order, turns-operator, turns-leaf, turn-next, weighs-name, weighs-call, weighs-box, weighs-angle, weighs-at, weighs-quant, weighs-choose, weighs-let, weighs-plain, sets-next, keys-next, weighs-key, weighs-field-key, each-next, updates-next, no-more-values, except-begins, except-empty, bodies-step, known-step, next-one, all-past, last-one, because, in-any-case}
+use Rattle.expression_level.proofs.walk.+weigh.Goals as goal
+
+pub weigh-loop-next-init : goal.weigh-loop-next-init
+weigh-loop-next-init t c =
+    let n = c.args.names.now in
+    record {
+      same = refl;
+      order =
+        (λ i. fold (turned n c.args.depth c.args.at.now) (c.new-stack.ensures.items i) (map (λ m. term_of m.now) (c.as_slice-next-items.ensures.value i)))
+        ∙ ap (fold (turned n c.args.depth c.args.at.now) []) c.in_ok-nodes.ensures.ordered
+        ∙ in-order n c.args.depth c.args.at.now (term_of c.args.node.now) [];
+    }
+
+pub weigh-turn-requires : goal.weigh-turn-requires
+weigh-turn-requires t c =
+    let r = c.next-item.result in
+    let is : r ≡ slice_index_or c.in_ok-nodes.nodes.items c.loop-next.next-index r = c.next-item.is ∙ ap (λ l. slice_index_or l c.loop-next.next-index r) c.as_slice-next-items.ensures.value in
+    let within : c.loop-next.next-index < length c.in_ok-nodes.nodes.items = subst (λ l. c.loop-next.next-index < length l) c.as_slice-next-items.ensures.value c.loop-next-test.true in
+    let h : size-Node r.now ≤ size-Node c.args.node.now = subst (λ x. size-Node x.now ≤ size-Node c.args.node.now) (sym is) (c.in_ok-nodes.ensures.no_deeper c.loop-next.next-index r within) in
+    let d = c.decreases in (omega (arith, h, d), tt)
+
+pub weigh-loop-next-preserved : goal.weigh-loop-next-preserved
+weigh-loop-next-preserved t c = record {
+    same = c.in_ok-turn.ensures.same ∙ c.loop-next.invariant.same;
+    order = turn-next c.args.names.now c.args.depth c.args.at.now _ c.loop-next.stack.items c.turn.new.stack.items c.as_slice-next-items.result.now c.loop-next.next-index c.next-item.result c.loop-next.names
+      c.loop-next.invariant.order c.loop-next-test.true c.next-item.is c.loop-next.invariant.same c.in_ok-turn.ensures.turned;
+  }
+
+pub weigh-returns-in-Some : goal.weigh-returns-in-Some
+weigh-returns-in-Some t c =
+    let n = c.args.names.now in
+    record {
+      same = c.loop-next.invariant.same;
+      weight = last-one _ c.in-Some.weight _
+        (sym c.in-Some.ensures.items
+        ∙ sym (ap (λ l. fold (turned n c.args.depth c.args.at.now) c.loop-next.stack.items (map (λ m. term_of m.now) l)) (all-past c.as_slice-next-items.result.now c.loop-next.next-index c.loop-next-test.false))
+        ∙ c.loop-next.invariant.order);
+    }
+
+pub turn-returns-clause-turned : goal.turn-returns-clause-turned
+turn-returns-clause-turned t c =
+    turns-leaf c.args.names.now c.args.depth c.args.at.now c.args.node.now c.args.stack.now.items _ c.in_ok-weight-2.weight (sym c.if-is_operator.ensures) c.in_ok-weight-2.ensures.weight c.in_ok-push-2.ensures.items
+
+pub turn-returns-then-is_operator-clause-turned : goal.turn-returns-then-is_operator-clause-turned
+turn-returns-then-is_operator-clause-turned t c =
+    turns-operator c.args.names.now c.args.depth c.args.at.now c.args.node.now c.args.stack.now.items c.operate.new.stack.items _ c.len.result c.in_ok-weight.weight (sym c.if-is_operator.ensures) c.len.ensures
+      c.in_ok-weight.ensures.taken c.in_ok-weight.ensures.weight c.in_ok-push.ensures.items
+
+pub leaf-returns-in-Name-clause-weight : goal.leaf-returns-in-Name-clause-weight
+leaf-returns-in-Name-clause-weight t c = because _ _ c.name.result (weighs-name c.args.names.now c.args.depth c.args.at.now c.args.node.now _ c.in-Name.is) c.name.ensures.weight
+
+pub leaf-returns-in-Call-clause-weight : goal.leaf-returns-in-Call-clause-weight
+leaf-returns-in-Call-clause-weight t c = because _ _ c.name-in-Call.result (weighs-call c.args.names.now c.args.depth c.args.at.now c.args.node.now _ c.in-Call.is) c.name-in-Call.ensures.weight
+
+pub leaf-returns-in-BoxAct-clause-weight : goal.leaf-returns-in-BoxAct-clause-weight
+leaf-returns-in-BoxAct-clause-weight t c = because _ _ c.action.result (weighs-box c.args.names.now c.args.depth c.args.at.now c.args.node.now c.in-BoxAct.is) c.action.ensures.weight
+
+pub leaf-returns-in-AngleAct-clause-weight : goal.leaf-returns-in-AngleAct-clause-weight
+leaf-returns-in-AngleAct-clause-weight t c =
+    because _ _ c.action-in-AngleAct.result (weighs-angle c.args.names.now c.args.depth c.args.at.now c.args.node.now c.in-AngleAct.is) c.action-in-AngleAct.ensures.weight
+
+pub leaf-returns-in-At-clause-weight : goal.leaf-returns-in-At-clause-weight
+leaf-returns-in-At-clause-weight t c =
+    let p = (out-Node c.args.node.now).place in
+    because _ _ c.at_name.result (weighs-at c.args.names.now c.args.depth c.args.at.now c.args.node.now c.in-At.is ∙ ap (at_name p c.args.at.now) (sym c.new-none.ensures.items)) c.at_name.ensures
+
+pub leaf-returns-in-Except-clause-weight : goal.leaf-returns-in-Except-clause-weight
+leaf-returns-in-Except-clause-weight t c = c.except.ensures.weight (_, c.in-Except.is)
+
+pub leaf-returns-in_ok-before-in-Quant-clause-weight : goal.leaf-returns-in_ok-before-in-Quant-clause-weight
+leaf-returns-in_ok-before-in-Quant-clause-weight t c =
+    let n = c.args.names.now in let d = c.args.depth in let k = c.args.at.now in
+    let s = c.in_ok-before-in-Quant.ensures.weight ∙ ap (λ l. sets_of n d k (each_group l)) c.as_slice.ensures in
+    because _ _ c.behind.result
+      (weighs-quant n d k c.args.node.now _ _ c.in-Quant.is
+      ∙ sym (λ i. join (s i) (total (weights_of (c.in_ok-before-in-Quant.ensures.same i) d k (terms_of (map term_of (out-Node c.args.node.now).parts))))))
+      c.behind.ensures.weight
+
+pub leaf-returns-in_ok-before-in-Choose-clause-weight : goal.leaf-returns-in_ok-before-in-Choose-clause-weight
+leaf-returns-in_ok-before-in-Choose-clause-weight t c =
+    let n = c.args.names.now in let d = c.args.depth in let k = c.args.at.now in
+    because _ _ c.behind-in-Choose.result
+      (weighs-choose n d k c.args.node.now _ c.in-Choose.is
+      ∙ sym (λ i. join (c.in_ok-before-in-Choose.ensures.weight i) (total (weights_of (c.in_ok-before-in-Choose.ensures.same i) d k (terms_of (map term_of (out-Node c.args.node.now).parts))))))
+      c.behind-in-Choose.ensures.weight
+
+pub leaf-returns-in_ok-all-in-Let-clause-same : goal.leaf-returns-in_ok-all-in-Let-clause-same
+leaf-returns-in_ok-all-in-Let-clause-same t c =
+    let n = c.args.names.now in let d = c.args.depth in let k = c.args.at.now in
+    c.leave.ensures
+    ∙ (λ i. left (c.mark-mark.ensures i) ((c.in_ok-all-in-Let.ensures.same ∙ c.in_ok-before-in-Let.ensures.known) i))
+    ∙ definitions-left d k (each_def c.as_slice-in-Let.result.now) n
+
+pub leaf-returns-in_ok-all-in-Let-clause-weight : goal.leaf-returns-in_ok-all-in-Let-clause-weight
+leaf-returns-in_ok-all-in-Let-clause-weight t c =
+    let n = c.args.names.now in let d = c.args.depth in let k = c.args.at.now in
+    let s = c.in_ok-before-in-Let.ensures.weight ∙ ap (λ l. bodies_of n d k (each_def l)) c.as_slice-in-Let.ensures in
+    let m = c.in_ok-before-in-Let.ensures.known ∙ ap (λ l. with_definitions d k (each_def l) n) c.as_slice-in-Let.ensures in
+    c.in_ok-all-in-Let.ensures.weight
+    ∙ (λ i. join (s i) (total (weights_of (m i) d k (terms_of (map term_of (out-Node c.args.node.now).parts)))))
+    ∙ sym (weighs-let n d k c.args.node.now _ c.in-Let.is)
+
+pub leaf-returns-in_ok-apply-in_default : goal.leaf-returns-in_ok-apply-in_default
+leaf-returns-in_ok-apply-in_default t c =
+    let n = c.args.names.now in let d = c.args.depth in let k = c.args.at.now in let o = c.in_default in
+    record {
+      same = c.in_ok-parts-in_default.ensures.same;
+      weight =
+        c.in_ok-apply-in_default.ensures
+        ∙ ap (by_form (out-Node c.args.node.now).form (out-Node c.args.node.now).place)
+          (c.in_ok-all-in_default.ensures ∙ ap total (c.in_ok-parts-in_default.ensures.weights ∙ ap (λ l. weights_of n d k (terms_of (map term_of l))) c.as_slice-in_default.ensures))
+        ∙ sym (weighs-plain n d k c.args.node.now o.not-Name o.not-Call o.not-BoxAct o.not-AngleAct o.not-At o.not-Except o.not-Quant o.not-Choose o.not-Let);
+    }
+
+pub each-loop-node-preserved : goal.each-loop-node-preserved
+each-loop-node-preserved t c =
+    let n = c.args.names.now in let d = c.args.depth in let k = c.args.at.now in
+    record {
+      same = c.in_ok-weight.ensures.same ∙ c.loop-node.invariant.same;
+      rest = each-next n d k _ c.loop-node.found.items c.push.new.self.items c.in_ok-weight.weight _ _ c.node-item.result c.loop-node.invariant.rest
+        (next-one c.args.nodes.now c.loop-node.node-index (c.loop-node.node-index + 1) c.node-item.result refl c.loop-node-test.true c.node-item.is)
+        (c.in_ok-weight.ensures.weight ∙ ap (λ s. weight_of s d k (term_of c.node-item.result)) c.loop-node.invariant.same) c.in_ok-push.ensures.items;
+    }
+
+pub each-returns : goal.each-returns
+each-returns t c =
+    let n = c.args.names.now in let d = c.args.depth in let k = c.args.at.now in
+    record {
+      same = c.loop-node.invariant.same;
+      weights = sym (append-nil c.loop-node.found.items)
+        ∙ ap (λ l. c.loop-node.found.items ++ weights_of n d k (terms_of (map term_of l))) (sym (all-past c.args.nodes.now c.loop-node.node-index c.loop-node-test.false))
+        ∙ c.loop-node.invariant.rest;
+    }
+
+pub action-returns : goal.action-returns
+action-returns t c =
+    let n = c.args.names.now in let d = c.args.depth in let k = c.args.at.now in let p = (out-Node c.args.node.now).place in
+    let s = c.in_ok-subscript.ensures ∙ ap total (c.in_ok-others.ensures.weights ∙ ap (λ m. weights_of m d k (terms_of (map term_of c.in-Some.rest.now))) c.in_ok-taken.ensures.same) in
+    record {
+      same = in-any-case c.act.result (c.in_ok-others.ensures.same ∙ c.in_ok-taken.ensures.same);
+      weight = because _ _ c.act.result
+        (ap (λ l. acted n d k p (terms_of (map term_of l))) (sym c.as_slice.ensures ∙ c.in-Some.ensures.cases.0)
+        ∙ sym (λ i. action_weight p (c.in_ok-taken.ensures.weight i) (s i)))
+        c.act.ensures;
+    }
+
+pub sets-loop-group-preserved : goal.sets-loop-group-preserved
+sets-loop-group-preserved t c =
+    let n = c.args.names.now in let d = c.args.depth in let k = c.args.at.now in
+    record {
+      same = c.in_ok-weight.ensures.same ∙ c.loop-group.invariant.same;
+      rest = sets-next n d k _ c.loop-group.all c.join.new.self c.in_ok-weight.weight _ _ c.group-item.result c.loop-group.invariant.rest
+        (next-one c.args.groups.now c.loop-group.group-index (c.loop-group.group-index + 1) c.group-item.result refl c.loop-group-test.true c.group-item.is)
+        (c.in_ok-weight.ensures.weight ∙ ap (λ s. domain_weight s d k (out-Group c.group-item.result).domain) c.loop-group.invariant.same) c.in_ok-join.ensures;
+    }
+
+pub sets-returns : goal.sets-returns
+sets-returns t c =
+    let n = c.args.names.now in let d = c.args.depth in let k = c.args.at.now in
+    record {
+      same = c.loop-group.invariant.same;
+      weight = sym (joined-nothing c.loop-group.all)
+        ∙ ap (λ l. join c.loop-group.all (sets_of n d k (each_group l))) (sym (all-past c.args.groups.now c.loop-group.group-index c.loop-group-test.false))
+        ∙ c.loop-group.invariant.rest;
+    }
+
+pub key-returns-in-At-clause-weight : goal.key-returns-in-At-clause-weight
+key-returns-in-At-clause-weight t c = because _ _ c.weigh.result (weighs-key c.args.names.now c.args.depth c.args.at.now c.args.key.now _ c.in-At.is) c.weigh.ensures.weight
+
+pub key-returns-in-Field-clause-weight : goal.key-returns-in-Field-clause-weight
+key-returns-in-Field-clause-weight t c = c.nothing-none.ensures ∙ sym (weighs-field-key c.args.names.now c.args.depth c.args.at.now c.args.key.now _ c.in-Field.is)
+
+pub keys-loop-part-preserved : goal.keys-loop-part-preserved
+keys-loop-part-preserved t c =
+    let n = c.args.names.now in let d = c.args.depth in let k = c.args.at.now in
+    record {
+      same = c.in_ok-weight.ensures.same ∙ c.loop-part.invariant.same;
+      rest = keys-next n d k _ c.loop-part.all c.join.new.self c.in_ok-weight.weight _ _ c.part-item.result c.loop-part.invariant.rest
+        (subst (λ l. drop c.loop-part.part-index l ≡ c.part-item.result ∷ drop (c.loop-part.part-index + 1) l) c.as_slice-part-items.ensures
+          (next-one c.as_slice-part-items.result.now c.loop-part.part-index (c.loop-part.part-index + 1) c.part-item.result refl c.loop-part-test.true c.part-item.is))
+        (c.in_ok-weight.ensures.weight ∙ ap (λ s. keys_on s d k (each_key (c.part-item.result ∷ []))) c.loop-part.invariant.same) c.in_ok-join.ensures;
+    }
+
+pub keys-returns : goal.keys-returns
+keys-returns t c =
+    let n = c.args.names.now in let d = c.args.depth in let k = c.args.at.now in
+    record {
+      same = c.loop-part.invariant.same;
+      weight = sym (joined-nothing c.loop-part.all)
+        ∙ ap (λ l. join c.loop-part.all (keys_on n d k (each_key l)))
+          (sym (ap (drop c.loop-part.part-index) (sym c.as_slice-part-items.ensures) ∙ all-past c.as_slice-part-items.result.now c.loop-part.part-index c.loop-part-test.false))
+        ∙ c.loop-part.invariant.rest;
+    }
+
+pub except-returns-in_default-split_first-clause-weight : goal.except-returns-in_default-split_first-clause-weight
+except-returns-in_default-split_first-clause-weight t c = λ h.
+    let none = c.in_default-split_first.ensures.cases in
+    except-empty c.args.names.now c.args.depth c.args.at.now c.args.node.now c.in-Except.paths _ c.in-Except.is (sym (ap length c.as_slice.ensures) ∙ none) c.nothing-empty.ensures
+
+pub except-loop-index-preserved : goal.except-loop-index-preserved
+except-loop-index-preserved t c =
+    let n = c.args.names.now in let d = c.args.depth in let k = c.args.at.now in
+    let same = c.in_ok-found.ensures.same ∙ c.loop-index.invariant.same in
+    record {
+      same = c.in_ok-weight.ensures.same ∙ same;
+      rest = updates-next n d k _ c.loop-index.all c.join.new.self c.join-in-loop-index.new.self c.in_ok-found.found c.in_ok-weight.weight _ _ _ _ c.index-paths-index.result c.index-values-index.result c.loop-index.invariant.rest
+        (next-one c.as_slice-paths.result.now c.loop-index.index (c.loop-index.index + 1) c.index-paths-index.result refl c.if-index-paths.false c.index-paths-index.is)
+        (next-one c.in-Some.values.now c.loop-index.index (c.loop-index.index + 1) c.index-values-index.result refl c.loop-index-test.true c.index-values-index.is)
+        (c.in_ok-found.ensures.weight ∙ ap (λ s. keys_on s d k (each_key (out-Path c.index-paths-index.result).keys)) c.loop-index.invariant.same)
+        c.in_ok-join.ensures
+        (c.in_ok-weight.ensures.weight ∙ (λ i. weight_of (same i) d (c.in_ok-now.ensures i) (term_of c.index-values-index.result)))
+        c.in_ok-join-2.ensures;
+    }
+
+pub except-returns-then-index-paths-clause-weight : goal.except-returns-then-index-paths-clause-weight
+except-returns-then-index-paths-clause-weight t c = λ h.
+    let n = c.args.names.now in let d = c.args.depth in let k = c.args.at.now in
+    sym (ap (λ l. updates_on n d k l (drop c.loop-index.index c.in-Some.values.now) c.loop-index.all) (all-past c.as_slice-paths.result.now c.loop-index.index c.if-index-paths.true))
+    ∙ c.loop-index.invariant.rest
+    ∙ except-begins n d k c.args.node.now c.in-Except.paths c.as_slice-paths.result.now c.in-Some.values.now c.in-Some.function.now c.in_ok-all.all c.in-Except.is c.as_slice-paths.ensures
+      (sym c.as_slice.ensures ∙ c.in-Some.ensures.cases.0) c.in_ok-all.ensures.weight
+
+pub except-returns : goal.except-returns
+except-returns t c =
+    let n = c.args.names.now in let d = c.args.depth in let k = c.args.at.now in
+    record {
+      same = c.loop-index.invariant.same;
+      weight = λ h.
+        sym (ap (λ l. updates_on n d k (drop c.loop-index.index c.as_slice-paths.result.now) l c.loop-index.all) (all-past c.in-Some.values.now c.loop-index.index c.loop-index-test.false)
+          ∙ no-more-values n d k (drop c.loop-index.index c.as_slice-paths.result.now) c.loop-index.all)
+        ∙ c.loop-index.invariant.rest
+        ∙ except-begins n d k c.args.node.now c.in-Except.paths c.as_slice-paths.result.now c.in-Some.values.now c.in-Some.function.now c.in_ok-all.all c.in-Except.is c.as_slice-paths.ensures
+          (sym c.as_slice.ensures ∙ c.in-Some.ensures.cases.0) c.in_ok-all.ensures.weight;
+    }
+
+pub definitions-loop-def-preserved : goal.definitions-loop-def-preserved
+definitions-loop-def-preserved t c =
+    let d = c.args.depth in let k = c.args.at.now in
+    let next = next-one c.args.defs.now c.loop-def.def-index (c.loop-def.def-index + 1) c.def-item.result refl c.loop-def-test.true c.def-item.is in
+    record {
+      known = known-step d k _ c.loop-def.names c.definition.new.names _ _ c.def-item.result c.loop-def.invariant.known next c.in_ok-asked.ensures.known;
+      rest = bodies-step d k _ c.loop-def.all c.join.new.self c.in_ok-asked.asked c.loop-def.names c.definition.new.names _ _ c.def-item.result c.loop-def.invariant.rest next c.in_ok-asked.ensures.known c.in_ok-asked.ensures.weight c.in_ok-join.ensures;
+    }
+
+pub definitions-returns : goal.definitions-returns
+definitions-returns t c =
+    let d = c.args.depth in let k = c.args.at.now in
+    let end = sym (all-past c.args.defs.now c.loop-def.def-index c.loop-def-test.false) in
+    record {
+      known = ap (λ l. with_definitions d k (each_def l) c.loop-def.names) end ∙ c.loop-def.invariant.known;
+      weight = sym (joined-nothing c.loop-def.all) ∙ ap (λ l. join c.loop-def.all (bodies_of c.loop-def.names d k (each_def l))) end ∙ c.loop-def.invariant.rest;
+    }
+
+pub definition-returns : goal.definition-returns
+definition-returns t c =
+    let n = c.args.names.now in let d = c.args.depth in let k = c.args.at.now in let x = out-Def c.args.def.now in
+    let bound = c.in_ok-inner.ensures.bound ∙ ap (λ l. with_parameters d l n) c.as_slice.ensures in
+    let inner = c.in_ok-inner.ensures.depth ∙ ap (λ l. d + length l) c.as_slice.ensures in
+    let body = c.in_ok-body.ensures.weight ∙ (λ i. weight_of (bound i) (inner i) k (term_of (c.get.ensures i))) ∙ weigh-with-parameters d x.params n k (term_of x.body) in
+    let before = c.leave.ensures ∙ (λ i. left (c.mark-mark.ensures i) ((c.in_ok-body.ensures.same ∙ bound) i)) ∙ parameters-left d x.params n in
+    let known = c.in_ok-known.ensures.known ∙ (λ i. defined d (body i).least (take (inner i) (body i).uses) (has_fault (body i).faults)) in
+    record {
+      known = c.in_ok-bind.ensures ∙ (λ i. with_name x.place (known i) (before i));
+      weight = c.in_ok-known.ensures.asked ∙ ap (asked_round d) body;
+    }

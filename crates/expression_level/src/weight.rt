@@ -1,0 +1,275 @@
+//! How levels depend on parameters.
+
+ghost use Rattle.std.specs.Prelude.{◌≡◌, ◌||◌, ◌++◌, nat_lt, map, drop, IfOk, OnOk};
+ghost use Rattle.expression_level.specs.Levels as levels;
+ghost use Rattle.expression_level.specs.Weights as spec;
+ghost use Rattle.expression_level.specs.Store.{changed};
+
+use core_expr::Memory;
+use std::alloc::Global;
+use std::marker::Model;
+use tla_ast::Place;
+
+/// The higher of two levels.
+pub fn higher(first: u64, second: u64) -> u64
+    ensures { result ≡ levels.higher first second }
+{
+    if first < second { second } else { first }
+}
+
+/// The level of an expression of this level, once it is primed.
+pub fn raised(level: u64) -> u64
+    ensures { result ≡ levels.raised level }
+{
+    if level == 0 { 0 } else { 2 }
+}
+
+/// The stricter of two limits.
+fn stricter(first: Option<u64>, second: Option<u64>) -> Option<u64>
+    ensures { result ≡ spec.stricter first second }
+{
+    match (first, second) {
+        (None, limit) => limit,
+        (limit, None) => limit,
+        (Some(first), Some(second)) => Some(if first < second { first } else { second }),
+    }
+}
+
+/// How a parameter counts in the level of an expression: as it is, raised as by a prime, and the greatest level that is lawful
+/// for it.
+#[derive(Clone, Copy, Debug)]
+pub struct Use {
+    pub plain: bool,
+    pub raised: bool,
+    pub limit: Option<u64>,
+}
+
+/// What is made of how parameters count.
+#[derive(Clone, Copy, Debug)]
+pub enum Change {
+    /// The limits alone are kept.
+    Kept,
+    /// The level must not be over this one.
+    Capped(u64),
+    /// The expression is primed.
+    Raised,
+    /// The limits are left aside.
+    Unlimited,
+}
+
+impl Use {
+    /// Two uses of one parameter.
+    fn both(self, other: Use) -> Use
+        ensures { result ≡ spec.both self other }
+    {
+        Use {
+            plain: self.plain || other.plain,
+            raised: self.raised || other.raised,
+            limit: stricter(self.limit, other.limit),
+        }
+    }
+
+    /// The level that a parameter of this level gives.
+    fn counted(self, level: u64) -> u64
+        ensures { result ≡ spec.counted self level }
+    {
+        let plain = if self.plain { level } else { 0 };
+        let lifted = if self.raised { raised(level) } else { 0 };
+        higher(plain, lifted)
+    }
+
+    /// What is asked of the parameter where what it gives must not be over a level.
+    fn asked(self, limit: u64) -> Option<u64>
+        ensures { result ≡ spec.asked limit self }
+    {
+        let plain = if self.plain { Some(limit) } else { None };
+        let lifted = if self.raised && limit < 2 { Some(0) } else { None };
+        stricter(plain, lifted)
+    }
+
+    /// Whether a parameter of this level is over its limit.
+    pub fn is_over(self, level: u64) -> bool
+        ensures { result ≡ spec.is_over self.limit level }
+    {
+        match self.limit {
+            None => false,
+            Some(limit) => limit < level,
+        }
+    }
+
+    /// How the parameter of an argument counts where the argument is used so.
+    fn passed(self, inner: Use) -> Use
+        ensures { result ≡ spec.passed self inner }
+    {
+        Use {
+            plain: self.plain && inner.plain,
+            raised: self.plain && inner.raised || self.raised && (inner.plain || inner.raised),
+            limit: match self.limit {
+                None => None,
+                Some(limit) => inner.asked(limit),
+            },
+        }
+    }
+
+    /// A change of how a parameter counts.
+    fn changed(self, change: Change) -> Use
+        ensures { result ≡ changed change self }
+    {
+        match change {
+            Change::Kept => Use {
+                plain: false,
+                raised: false,
+                limit: self.limit,
+            },
+            Change::Capped(limit) => Use {
+                plain: self.plain,
+                raised: self.raised,
+                limit: stricter(self.limit, self.asked(limit)),
+            },
+            Change::Raised => Use {
+                plain: false,
+                raised: self.plain || self.raised,
+                limit: self.limit,
+            },
+            Change::Unlimited => Use {
+                plain: self.plain,
+                raised: self.raised,
+                limit: None,
+            },
+        }
+    }
+}
+
+/// Changes how each parameter counts.
+pub fn change_all(uses: &mut Vec<Use>, change: Change)
+    ensures { uses.new.items ≡ map (changed change) uses.old.items }
+{
+    for index in 0..uses.len() {
+        uses[index] = uses[index].changed(change);
+    }
+}
+
+/// Joins uses to others.
+fn join_uses(uses: &mut Vec<Use>, others: &[Use]) -> Result<(), Memory>
+    ensures { OnOk result (uses.new.items ≡ spec.all_uses uses.old.items others.now) }
+{
+    for index in 0..others.len() {
+        if index < uses.len() {
+            uses[index] = uses[index].both(others[index]);
+        } else {
+            uses.push(others[index])?;
+        }
+    }
+    Ok(())
+}
+
+/// How the parameters of an argument count where the argument is used so.
+fn passed_uses(alloc: Global, outer: Use, uses: &[Use]) -> Result<Vec<Use>, Memory>
+    ensures { IfOk result (λ passed. passed.items ≡ map (spec.passed outer) uses.now) }
+{
+    let mut passed = Vec::new(alloc);
+    for inner in uses {
+        passed.push(outer.passed(*inner))?;
+    }
+    Ok(passed)
+}
+
+/// How the level of an expression depends on the levels of the parameters round it: the level where all have level 0, how each
+/// counts, the outermost first, and the places of the faults that stand whatever they have.
+#[derive(Debug, Drop)]
+pub struct Weight {
+    pub least: u64,
+    pub uses: Vec<Use>,
+    pub faults: Vec<Place>,
+}
+
+impl Model for Weight {
+    ghost use Rattle.expression_level.specs.Weights.{Weight as Seen};
+
+    ghost Value = { Seen };
+
+    ghost view = { λ w. record { least = w.least; uses = w.uses.items; faults = w.faults.items } };
+}
+
+impl Weight {
+    /// No level and no fault.
+    pub fn nothing(alloc: Global) -> Weight
+        ensures { result ≡ spec.nothing }
+    {
+        Weight {
+            least: 0,
+            uses: Vec::new(alloc),
+            faults: Vec::new(alloc),
+        }
+    }
+
+    /// The level where all parameters have level 0.
+    pub fn level(&self) -> u64
+        ensures { result ≡ self.now.least }
+    {
+        self.least
+    }
+
+    /// Two expressions side by side.
+    pub fn join(&mut self, mut other: Weight) -> Result<(), Memory>
+        ensures { OnOk result (self.new ≡ spec.join self.old other) }
+    {
+        self.least = higher(self.least, other.least);
+        join_uses(&mut self.uses, &other.uses)?;
+        self.faults.append(&mut other.faults)?;
+        Ok(())
+    }
+
+    /// A level whatever the parameters have.
+    pub fn fix(&mut self, level: u64)
+        ensures { self.new ≡ spec.fixed level self.old }
+    {
+        self.least = level;
+        change_all(&mut self.uses, Change::Kept);
+    }
+
+    /// Notes a fault, if there is one.
+    pub fn note(&mut self, is_fault: bool, place: Place) -> Result<(), Memory>
+        ensures { OnOk result (self.new ≡ spec.with_fault is_fault place self.old) }
+    {
+        if is_fault {
+            self.faults.push(place)?;
+        }
+        Ok(())
+    }
+
+    /// Asks of the parameters that the level is not over a limit.
+    pub fn cap(&mut self, limit: u64)
+        ensures { self.new ≡ spec.capped limit self.old }
+    {
+        change_all(&mut self.uses, Change::Capped(limit));
+    }
+
+    /// The level must not be over a limit; a fault at the place where it is in any case.
+    pub fn limit(&mut self, limit: u64, place: Place) -> Result<(), Memory>
+        ensures { OnOk result (self.new ≡ spec.limited limit place self.old) }
+    {
+        let is_fault = limit < self.least;
+        self.cap(limit);
+        self.note(is_fault, place)
+    }
+
+    /// The expression, once it is primed.
+    pub fn lift(&mut self)
+        ensures { self.new ≡ spec.lifted self.old }
+    {
+        self.least = raised(self.least);
+        change_all(&mut self.uses, Change::Raised);
+    }
+
+    /// What an argument gives where it is used so.
+    pub fn argument(&self, alloc: Global, outer: Use) -> Result<Weight, Memory>
+        ensures { IfOk result (λ weight. weight ≡ spec.argument outer self.now) }
+    {
+        Ok(Weight {
+            least: outer.counted(self.least),
+            uses: passed_uses(alloc, outer, &self.uses)?,
+            faults: Vec::new(alloc),
+        })
+    }
+}
