@@ -1,7 +1,7 @@
 //! The order in which a walk meets the operators of an expression.
 
-ghost use Rattle.std.specs.Prelude.{◌≡◌, ◌++◌, map, IfOk, OnOk};
-ghost use Rattle.tla_ast.specs.declared.tree.Node.{out-Node};
+ghost use Rattle.std.specs.Prelude.{◌≡◌, ◌≤◌, ◌++◌, map, All, IfOk, OnOk};
+ghost use Rattle.tla_ast.specs.declared.tree.Node.{out-Node, size-Node};
 ghost use Rattle.plain_syntax.specs.Syntax.{term_of};
 ghost use Rattle.plain_syntax.specs.Order as spec;
 
@@ -39,8 +39,10 @@ fn add_operands<'a>(stack: &mut Vec<&'a Node>, node: &'a Node) -> Result<(), Mem
 /// The operands that the operators of an expression join, from left to right, and each operator behind its operands. The
 /// expression itself comes last. Takes time and memory linear in their number, and no stack.
 pub fn operator_order<'a>(alloc: Global, root: &'a Node) -> Result<Vec<&'a Node>, Memory>
-    ensures { IfOk result (λ found.
+    ensures ordered { IfOk result (λ found.
         map (λ n. term_of n.now) found.items ≡ spec.order (term_of root.now)) }
+    ensures no_deeper { IfOk result (λ found.
+        All (λ n. size-Node n.now ≤ size-Node root.now) found.items) }
 {
     let mut stack = Vec::new(alloc);
     let mut found = Vec::new(alloc);
