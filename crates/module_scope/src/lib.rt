@@ -1,0 +1,6 @@
+//! What each name of the modules means.
+#![tactic(auto)]
+
+mod scope;
+
+pub use scope::Scope;

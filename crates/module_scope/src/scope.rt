@@ -1,0 +1,99 @@
+//! The names that are in scope.
+
+ghost use Rattle.std.specs.Prelude.{◌≡◌, [], ◌∷◌, ◌++◌, length, take, drop, map, MatchOption, OnOk, OnErr};
+ghost use Rattle.module_scope.specs.Scope as spec;
+
+use core_expr::Memory;
+use indexmap::IndexMap;
+use std::alloc::Global;
+use std::marker::Model;
+
+/// A name in scope, the number of its declaration, and the number that the name had before.
+#[derive(Drop)]
+struct Named<'a> {
+    name: &'a [u8],
+    number: u64,
+    shadowed: Option<u64>,
+}
+
+/// The names in scope, the oldest first, each with the number of its declaration. A look-up takes near constant time, and so
+/// does it to enter a name or to leave one.
+#[derive(Drop)]
+pub struct Scope<'a> {
+    newest: IndexMap<&'a [u8], u64>,
+    names: Vec<Named<'a>>,
+}
+
+impl<'a> Model for Scope<'a> {
+    ghost use Rattle.std.specs.Prelude.{List, ℕ};
+    ghost use Rattle.module_scope.specs.Kept.{in_scope, Kept};
+
+    ghost Value = { List (List ℕ × ℕ) };
+
+    ghost invariant = { λ s. Kept s.newest s.names.items };
+
+    ghost view = { λ s. in_scope s.names.items };
+}
+
+impl<'a> Scope<'a> {
+    /// Nothing in scope.
+    pub fn new(alloc: Global) -> Scope<'a>
+        ensures { result ≡ [] }
+    {
+        Scope {
+            newest: IndexMap::new(alloc),
+            names: Vec::new(alloc),
+        }
+    }
+
+    /// The number of the newest declaration of a name.
+    pub fn find(&self, name: &[u8]) -> Option<u64>
+        ensures { result ≡ spec.found name.now self.now }
+    {
+        self.newest.get(name).copied()
+    }
+
+    /// How many names are in scope.
+    pub fn len(&self) -> usize
+        ensures { result ≡ length self.now }
+    {
+        self.names.len()
+    }
+
+    /// Puts a name into the scope. Where memory is wanting the scope is as it was.
+    pub fn enter(&mut self, name: &'a [u8], number: u64) -> Result<(), Memory>
+        ensures entered { OnOk result (self.new ≡ self.old ++ (name.now, number) ∷ []) }
+        ensures unchanged { OnErr result (self.new ≡ self.old) }
+    {
+        let shadowed = self.newest.get(name).copied();
+        self.names.push(Named {
+            name,
+            number,
+            shadowed,
+        })?;
+        if self.newest.insert(name, number).is_err() {
+            self.names.pop();
+            return Err(Memory);
+        }
+        Ok(())
+    }
+
+    /// Takes the newest name out of the scope, and gives it with its number; None exactly where there is none.
+    pub fn pop(&mut self) -> Option<(&'a [u8], u64)>
+        ensures { MatchOption result ((self.old ≡ []) × (self.new ≡ []))
+            (λ e. self.old ≡ self.new ++ (e.0.now, e.1) ∷ []) }
+    {
+        let named = self.names.pop()?;
+        match named.shadowed {
+            None => {
+                self.newest.swap_remove(named.name);
+            }
+            Some(before) => {
+                if let Some(number) = self.newest.get_mut(named.name) {
+                    *number = before;
+                }
+            }
+        }
+        Some((named.name, named.number))
+    }
+}
