@@ -71,11 +71,13 @@ impl<'a> Scope<'a> {
             number,
             shadowed,
         })?;
-        if self.newest.insert(name, number).is_err() {
-            self.names.pop();
-            return Err(Memory);
+        match self.newest.insert(name, number) {
+            Ok(_) => Ok(()),
+            Err(_) => {
+                self.names.pop();
+                Err(Memory)
+            }
         }
-        Ok(())
     }
 
     /// Takes the newest name out of the scope, and gives it with its number; None exactly where there is none.
