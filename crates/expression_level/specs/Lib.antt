@@ -1,0 +1,4 @@
+pub mod Levels
+pub mod Primed
+pub mod Weights
+pub mod Store

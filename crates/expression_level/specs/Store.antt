@@ -1,0 +1,28 @@
+-- What the code keeps of a name, as the weights speak of it.
+use Rattle.std.specs.Prelude.{◌≡◌, ℕ, Bool, List, [], ◌∷◌, Option, Some, None, get_or}
+use Rattle.tla_ast.specs.declared.place.Place.{Place}
+use Rattle.symbol_table.specs.declared.entry.Entry.{Entry}
+use Rattle.symbol_table.specs.Symbols.{symbol_at}
+use Rattle.symbol_table.specs.Scoped.{entry_of}
+use Rattle.expression_level.specs.Levels.{Levels}
+use Rattle.expression_level.specs.Weights.{Known, depth_of, function_of}
+use Rattle.expression_level.specs.Weights.Known.{arguments, defined}
+use Rattle.expression_level.specs.declared.known.Definition.{Definition}
+
+abbrev pub known_of : Option Definition → Known
+known_of None = arguments
+known_of (Some d) = defined d.depth d.least d.uses.items d.has_fault
+
+-- what each number has, where these are kept
+abbrev pub levels_of : List Known → Levels
+levels_of ks n = function_of [] (get_or ks n arguments)
+
+-- no parameters are bound round what is kept
+abbrev pub AllClosed : List Known → Type 0
+AllClosed [] = Unit {0}
+AllClosed (k ∷ ks) = (depth_of k ≡ 0) × AllClosed ks
+
+-- which parameters the entry of a number primes
+abbrev pub flags_of : List Entry → Option ℕ → List Bool
+flags_of es None = []
+flags_of es (Some n) = (entry_of es n).primed

@@ -1,0 +1,273 @@
+-- Levels in one pass: how the level of an expression, and what it asks for, depend on the levels of the parameters round it.
+-- A parameter is known by its position among those that are bound, the outermost first. A use says how one counts: as it is, raised
+-- as by a prime, and the greatest level that is lawful for it.
+use Rattle.std.specs.Prelude.{ℕ, zero, suc, ◌+◌, Bool, true, false, ◌||◌, ◌&&◌, nat_lt, if◌then◌else◌, List, [], ◌∷◌, ◌++◌, map, take, drop, length, Option, Some, None, codes}
+use Rattle.tla_ast.specs.declared.place.Place.{Place}
+use Rattle.tla_ast.specs.declared.tree.Decl.{Decl}
+use Rattle.plain_syntax.specs.Plain.{Text, Term, Terms, Shape, Updates, Keys, Groups, Defs}
+use Rattle.plain_syntax.specs.Plain.Term.{term}
+use Rattle.plain_syntax.specs.Plain.Terms.{none, part}
+use Rattle.plain_syntax.specs.Plain.Shape.{name, call, prefixed, infixed, prime, except, box, angle, quantifier, choice, local, at, fair}
+use Rattle.plain_syntax.specs.Plain.Updates.{end_updates, update}
+use Rattle.plain_syntax.specs.Plain.Keys.{end_keys, key, field_key}
+use Rattle.plain_syntax.specs.Plain.Groups.{end_groups, free, within}
+use Rattle.plain_syntax.specs.Plain.Defs.{end_defs, def}
+use Rattle.expression_level.specs.declared.weight.Use.{Use}
+use Rattle.expression_level.specs.Levels.{is_word, higher, greatest, raised, bind, has_fault, fault_if, Applied}
+
+-- the level where all parameters have level 0; how each parameter counts; the faults that stand whatever they have
+pub record Weight : Type 0 where
+  pub least : ℕ
+  pub uses : List Use
+  pub faults : List Place
+
+-- ---- under given levels of the parameters
+
+abbrev pub counted : Use → ℕ → ℕ
+counted u l = higher (if u.plain then l else 0) (if u.raised then raised l else 0)
+
+abbrev pub is_over : Option ℕ → ℕ → Bool
+is_over None l = false
+is_over (Some k) l = nat_lt k l
+
+-- the level that the parameters give
+abbrev pub level_from : List Use → List ℕ → ℕ
+level_from [] ls = 0
+level_from (u ∷ us) [] = 0
+level_from (u ∷ us) (l ∷ ls) = higher (counted u l) (level_from us ls)
+
+-- some parameter is over its limit
+abbrev pub breaks : List Use → List ℕ → Bool
+breaks [] ls = false
+breaks (u ∷ us) [] = false
+breaks (u ∷ us) (l ∷ ls) = is_over u.limit l || breaks us ls
+
+abbrev pub level_under : List ℕ → Weight → ℕ
+level_under ls w = higher w.least (level_from w.uses ls)
+
+abbrev pub fault_under : List ℕ → Weight → Bool
+fault_under ls w = has_fault w.faults || breaks w.uses ls
+
+-- ---- weights together
+
+abbrev pub stricter : Option ℕ → Option ℕ → Option ℕ
+stricter None l = l
+stricter (Some k) None = Some k
+stricter (Some k) (Some l) = Some (if nat_lt k l then k else l)
+
+abbrev pub both : Use → Use → Use
+both u v = record { plain = u.plain || v.plain; raised = u.raised || v.raised; limit = stricter u.limit v.limit }
+
+abbrev pub all_uses : List Use → List Use → List Use
+all_uses [] vs = vs
+all_uses (u ∷ us) [] = u ∷ us
+all_uses (u ∷ us) (v ∷ vs) = both u v ∷ all_uses us vs
+
+abbrev pub nothing : Weight
+nothing = record { least = 0; uses = []; faults = [] }
+
+abbrev pub join : Weight → Weight → Weight
+join v w = record { least = higher v.least w.least; uses = all_uses v.uses w.uses; faults = v.faults ++ w.faults }
+
+abbrev pub total : List Weight → Weight
+total [] = nothing
+total (w ∷ ws) = join w (total ws)
+
+-- a use of which only the limit is left
+abbrev pub kept : Use → Use
+kept u = record { plain = false; raised = false; limit = u.limit }
+
+-- a level whatever the parameters are, with what they are asked for
+abbrev pub fixed : ℕ → Weight → Weight
+fixed l w = record { least = l; uses = map kept w.uses; faults = w.faults }
+
+abbrev pub with_fault : Bool → Place → Weight → Weight
+with_fault b p w = record { least = w.least; uses = w.uses; faults = w.faults ++ fault_if b p }
+
+-- the limit where a level as it is, and one that is raised, must not be over this one
+abbrev pub asked_plain : ℕ → Bool → Option ℕ
+asked_plain k b = if b then Some k else None
+
+abbrev pub asked_raised : ℕ → Bool → Option ℕ
+asked_raised k b = if b && nat_lt k 2 then Some 0 else None
+
+abbrev pub asked : ℕ → Use → Option ℕ
+asked k u = stricter (asked_plain k u.plain) (asked_raised k u.raised)
+
+abbrev pub capped_use : ℕ → Use → Use
+capped_use k u = record { plain = u.plain; raised = u.raised; limit = stricter u.limit (asked k u) }
+
+-- a weight that must not be over a limit: what that asks of parameters
+abbrev pub capped : ℕ → Weight → Weight
+capped k w = record { least = w.least; uses = map (capped_use k) w.uses; faults = w.faults }
+
+-- and a fault at the place where it is over in any case
+abbrev pub limited : ℕ → Place → Weight → Weight
+limited k p w = with_fault (nat_lt k w.least) p (capped k w)
+
+abbrev pub raised_use : Use → Use
+raised_use u = record { plain = false; raised = u.plain || u.raised; limit = u.limit }
+
+abbrev pub lifted : Weight → Weight
+lifted w = record { least = raised w.least; uses = map raised_use w.uses; faults = w.faults }
+
+abbrev pub prefix_weight : Text → Place → Weight → Weight
+prefix_weight o p w =
+    if is_word o (codes "UNCHANGED") then fixed 2 (limited 1 p w)
+    else (if is_word o (codes "ENABLED") then fixed 1 (limited 2 p w)
+    else (if is_word o (codes "[]") || is_word o (codes "<>") then fixed 3 w else w))
+
+abbrev pub infix_weight : Text → Weight → Weight
+infix_weight o w = if is_word o (codes "~>") then fixed 3 w else w
+
+abbrev pub form_weight : Shape → Place → Weight → Weight
+form_weight (prefixed o) p w = prefix_weight o p w
+form_weight (infixed o) p w = infix_weight o w
+form_weight prime p w = lifted (limited 1 p w)
+form_weight fair p w = fixed 3 w
+form_weight s p w = w
+
+-- an action and its subscript
+abbrev pub action_weight : Place → Weight → Weight → Weight
+action_weight p a v = fixed 2 (with_fault (nat_lt 2 a.least || nat_lt 1 v.least) p (join (capped 2 a) (capped 1 v)))
+
+-- ---- names
+
+-- What a number has: the level of its arguments; or a definition, with the number of parameters bound round it, whose own follow.
+pub data Known : Type 0 where
+  arguments : Known
+  defined : ℕ → ℕ → List Use → Bool → Known
+
+-- how many parameters are bound round it
+abbrev pub depth_of : Known → ℕ
+depth_of arguments = 0
+depth_of (defined d l us b) = d
+
+-- what it has under given levels of the parameters round it
+abbrev pub function_of : List ℕ → Known → Applied
+function_of ls arguments args = (greatest args, false)
+function_of ls (defined d l us b) args = (higher l (level_from us (take d ls ++ args)), b || breaks us (take d ls ++ args))
+
+-- the first items, as many as this, 0 where there are no more
+abbrev pub padded : ℕ → List ℕ → List ℕ
+padded zero ls = []
+padded (suc n) [] = 0 ∷ padded n []
+padded (suc n) (l ∷ ls) = l ∷ padded n ls
+
+abbrev pub unused : Use
+unused = record { plain = false; raised = false; limit = None }
+
+abbrev pub as_it_is : Use
+as_it_is = record { plain = true; raised = false; limit = None }
+
+-- the parameter at a position
+abbrev pub uses_of : ℕ → List Use
+uses_of zero = as_it_is ∷ []
+uses_of (suc n) = unused ∷ uses_of n
+
+abbrev pub parameter : ℕ → Known
+parameter n = defined (suc n) 0 (uses_of n) false
+
+-- a definition of so many parameters among those that are bound round it
+abbrev pub definition : ℕ → ℕ → Weight → Known
+definition d n w = defined d w.least (take (d + n) w.uses) (has_fault w.faults)
+
+abbrev pub unlimited : Use → Use
+unlimited u = record { plain = u.plain; raised = u.raised; limit = None }
+
+-- what `@` stands for
+abbrev pub result_so_far : ℕ → Weight → Known
+result_so_far d w = defined d w.least (map unlimited (take d w.uses)) false
+
+-- what is asked of a parameter of an argument where the argument must not be over a limit
+abbrev pub passed_limit : Option ℕ → Use → Option ℕ
+passed_limit None v = None
+passed_limit (Some k) v = asked k v
+
+-- how the parameters of an argument count where the argument is used so
+abbrev pub passed : Use → Use → Use
+passed u v = record { plain = u.plain && v.plain; raised = (u.plain && v.raised) || (u.raised && (v.plain || v.raised)); limit = passed_limit u.limit v }
+
+abbrev pub argument : Use → Weight → Weight
+argument u w = record { least = counted u w.least; uses = map (passed u) w.uses; faults = [] }
+
+abbrev pub put : List Use → List Weight → Weight
+put [] ws = nothing
+put (u ∷ us) [] = nothing
+put (u ∷ us) (w ∷ ws) = join (argument u w) (put us ws)
+
+abbrev pub put_breaks : List Use → List Weight → Bool
+put_breaks [] ws = false
+put_breaks (u ∷ us) [] = false
+put_breaks (u ∷ us) (w ∷ ws) = is_over u.limit w.least || put_breaks us ws
+
+abbrev pub at_name : Place → Known → List Weight → Weight
+at_name p arguments ws = total ws
+at_name p (defined d l us b) ws =
+    with_fault (b || put_breaks (drop d us) ws) p
+    (join (fixed 0 (total ws)) (join (record { least = l; uses = take d us; faults = [] }) (put (drop d us) ws)))
+
+abbrev pub Env : Type 0
+Env = ℕ → Known
+
+abbrev pub known : Env → Option ℕ → Known
+known env None = arguments
+known env (Some n) = env n
+
+-- what a weight asks of the parameters round a definition
+abbrev pub asked_round : ℕ → Weight → Weight
+asked_round d w = fixed 0 (record { least = 0; uses = take d w.uses; faults = w.faults })
+
+module _ (means : Place → Option ℕ) where
+  -- parameters stand for themselves
+  abbrev pub with_parameters : ℕ → Env → List Decl → Env
+  with_parameters d env [] = env
+  with_parameters d env (p ∷ ps) = with_parameters (suc d) (bind (means p.place) (parameter d) env) ps
+
+  -- the weight of an expression among so many parameters, where names have these and `@` stands for this
+  abbrev mutual
+    pub weigh : ℕ → Env → Known → Term → Weight
+    weigh d env a (term (name w) ts p) = at_name p (known env (means p)) (weigh_each d env a ts)
+    weigh d env a (term (call w) ts p) = at_name p (known env (means p)) (weigh_each d env a ts)
+    weigh d env a (term box none p) = fixed 2 nothing
+    weigh d env a (term box (part t ts) p) = action_weight p (weigh d env a t) (total (weigh_each d env a ts))
+    weigh d env a (term angle none p) = fixed 2 nothing
+    weigh d env a (term angle (part t ts) p) = action_weight p (weigh d env a t) (total (weigh_each d env a ts))
+    weigh d env a (term at ts p) = at_name p a []
+    weigh d env a (term (except us) none p) = nothing
+    weigh d env a (term (except us) (part t ts) p) = updates d env a (weigh d env a t) us
+    weigh d env a (term (quantifier all gs) ts p) = join (sets d env a gs) (total (weigh_each d env a ts))
+    weigh d env a (term (choice gs) ts p) = join (sets d env a gs) (total (weigh_each d env a ts))
+    weigh d env a (term (local ds) ts p) = join (bodies d env a ds) (total (weigh_each d (with_definitions d env a ds) a ts))
+    weigh d env a (term s ts p) = form_weight s p (total (weigh_each d env a ts))
+
+    pub weigh_each : ℕ → Env → Known → Terms → List Weight
+    weigh_each d env a none = []
+    weigh_each d env a (part t ts) = weigh d env a t ∷ weigh_each d env a ts
+
+    pub sets : ℕ → Env → Known → Groups → Weight
+    sets d env a end_groups = nothing
+    sets d env a (free ds gs) = sets d env a gs
+    sets d env a (within ds t gs) = join (weigh d env a t) (sets d env a gs)
+
+    pub updates : ℕ → Env → Known → Weight → Updates → Weight
+    updates d env a j end_updates = j
+    updates d env a j (update ks t us) =
+        let k = join j (keys d env a ks) in updates d env a (join k (weigh d env (result_so_far d k) t)) us
+
+    pub keys : ℕ → Env → Known → Keys → Weight
+    keys d env a end_keys = nothing
+    keys d env a (key t ks) = join (weigh d env a t) (keys d env a ks)
+    keys d env a (field_key h ks) = keys d env a ks
+
+    pub with_definitions : ℕ → Env → Known → Defs → Env
+    with_definitions d env a end_defs = env
+    with_definitions d env a (def w ps t p ds) =
+        with_definitions d (bind (means p) (definition d (length ps) (weigh (d + length ps) (with_parameters d env ps) a t)) env) a ds
+
+    -- what LET definitions ask for, where their own parameters have level 0
+    pub bodies : ℕ → Env → Known → Defs → Weight
+    bodies d env a end_defs = nothing
+    bodies d env a (def w ps t p ds) =
+        let j = weigh (d + length ps) (with_parameters d env ps) a t in
+        join (asked_round d j) (bodies d (bind (means p) (definition d (length ps) j) env) a ds)
