@@ -6,7 +6,8 @@ use Rattle.std.proofs.lemmas.List.{map-append}
 use Rattle.indexmap.specs.IndexMap.{IndexMap, get}
 use Rattle.plain_syntax.specs.Plain.{Text}
 use Rattle.module_scope.specs.declared.scope.Named.{Named}
-use Rattle.module_scope.specs.Scope.{Scope, is_word, found}
+use Rattle.expression_level.specs.Levels.{is_word}
+use Rattle.module_scope.specs.Scope.{Scope, found}
 use Rattle.module_scope.specs.Kept.{in_scope, Shadows, same_name, Kept}
 
 -- the later of two declarations, if there is one

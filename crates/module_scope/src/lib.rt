@@ -2,5 +2,7 @@
 #![tactic(auto)]
 
 mod scope;
+mod walker;
 
 pub use scope::Scope;
+pub use walker::Walker;

@@ -1,6 +1,6 @@
 //! The names that are in scope.
 
-ghost use Rattle.std.specs.Prelude.{◌≡◌, [], ◌∷◌, ◌++◌, length, take, drop, map, MatchOption, OnOk, OnErr};
+ghost use Rattle.std.specs.Prelude.{◌≡◌, [], ◌∷◌, ◌++◌, length, take, drop, map, reverse, MatchOption, IfOk, OnOk, OnErr};
 ghost use Rattle.module_scope.specs.Scope as spec;
 
 use core_expr::Memory;
@@ -97,5 +97,38 @@ impl<'a> Scope<'a> {
             }
         }
         Some((named.name, named.number))
+    }
+
+    /// Takes all names out of the scope but the oldest, so many.
+    pub fn leave(&mut self, len: usize)
+        ensures { self.new ≡ take len self.old }
+    {
+        while self.names.len() > len {
+            self.pop();
+        }
+    }
+
+    /// Takes all names out of the scope but the oldest, so many, and gives them, the newest first.
+    pub fn withdraw(&mut self, alloc: Global, len: usize) -> Result<Vec<(&'a [u8], u64)>, Memory>
+        ensures left { OnOk result (self.new ≡ take len self.old) }
+        ensures taken { IfOk result (λ taken. reverse (map spec.seen taken.items) ≡ drop len self.old) }
+    {
+        let mut taken = Vec::new(alloc);
+        while self.names.len() > len {
+            if let Some(named) = self.pop() {
+                taken.push(named)?;
+            }
+        }
+        Ok(taken)
+    }
+
+    /// Puts names into the scope, the last first.
+    pub fn restore(&mut self, mut taken: Vec<(&'a [u8], u64)>) -> Result<(), Memory>
+        ensures { OnOk result (self.new ≡ self.old ++ reverse (map spec.seen taken.entry.items)) }
+    {
+        while let Some((name, number)) = taken.pop() {
+            self.enter(name, number)?;
+        }
+        Ok(())
     }
 }

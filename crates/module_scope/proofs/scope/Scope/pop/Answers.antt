@@ -1,6 +1,6 @@
 use Rattle.std.proofs.Common.{cond, IsSome, refl, sym, ap, subst, ◌∙◌}
 use Rattle.indexmap.specs.IndexMap.{get}
-use Rattle.module_scope.specs.Scope.{is_word}
+use Rattle.expression_level.specs.Levels.{is_word}
 use Rattle.module_scope.specs.Kept.{same_name}
 use Rattle.module_scope.proofs.Shadows.{kept-pop, newest-found}
 use Rattle.module_scope.proofs.scope.Scope.pop.Goals as goal
@@ -22,4 +22,4 @@ invariant_of-self-in-Some-get_mut c =
 pub invariant_of-self-in_default : goal.invariant_of-self-in_default
 invariant_of-self-in_default c =
     let n = newest-found c.self.inside.newest c.self.inside.newest c.pop.new.self.items c.self.inside.names.items c.in_ok-named.named c.self.invariant c.in_ok-named.ensures.items in
-    absurd (subst IsSome (sym (c.in_default.ensures.value ∙ n)) refl)
+    let e = c.in_default.ensures.value ∙ n in cc
