@@ -1,1 +1,3 @@
 mod Shadows
+mod Defining
+mod Visits

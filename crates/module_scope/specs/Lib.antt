@@ -2,3 +2,4 @@ pub mod Scope
 pub mod Kept
 pub mod Names
 pub mod Known
+pub mod Visits

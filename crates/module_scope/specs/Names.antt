@@ -1,5 +1,6 @@
 -- What names mean: a walk over a module in the order of the text, which keeps what is in scope.
 use Rattle.std.specs.Prelude.{ℕ, zero, suc, Bool, true, false, ◌||◌, nat_eq, if◌then◌else◌, List, [], ◌∷◌, ◌++◌, length, take, drop, Option, Some, None, codes}
+use Rattle.std.specs.List.{list_any}
 use Rattle.tla_ast.specs.declared.place.Place.{Place}
 use Rattle.tla_ast.specs.declared.fault.Kind.{Kind}
 use Rattle.tla_ast.specs.declared.fault.Kind.TheVariants as kind
@@ -206,9 +207,22 @@ defined w ds t p b =
     })
     has p b
 
--- a field that is named for the second time
-abbrev pub field_twice : Text → List Text → Place → Walk
-field_twice h seen p b = if is_listed h seen then refused (kind.Redeclared h) p b else b
+abbrev pub has_field : List Text → Text → Bool
+has_field seen h = list_any (is_word h) seen
+
+-- the fields that were named, each once
+abbrev pub with_field : List Text → Text → List Text
+with_field seen h = if has_field seen h then seen else seen ++ h ∷ []
+
+-- the fields that were named, with this one
+abbrev pub with_head : List Text → Term → List Text
+with_head seen (term (name h) ts p) = with_field seen h
+with_head seen t = seen
+
+-- the name of a field, which may not be named for the second time
+abbrev pub head_names : List Text → Term → Walk
+head_names seen (term (name h) ts p) b = if has_field seen h then refused (kind.Redeclared h) p b else b
+head_names seen t b = b
 
 abbrev mutual
   pub names : Term → Walk
@@ -233,7 +247,7 @@ abbrev mutual
 
   -- the set, and then what sees the bound name
   pub bound_names : Text → Place → Terms → Walk
-  bound_names x p none b = inside (bound x p) b
+  bound_names x p none b = b
   bound_names x p (part s ts) b = inside (bound x p >> all_names ts) (names s b)
 
   pub set_names : Groups → Walk
@@ -253,10 +267,8 @@ abbrev mutual
   -- fields and their expressions in turn; a field is not named twice
   pub field_names : List Text → Terms → Walk
   field_names seen none b = b
-  field_names seen (part (term (name h) us p) none) b = b
-  field_names seen (part (term (name h) us p) (part t ts)) b = field_names (h ∷ seen) ts (names t (field_twice h seen p b))
-  field_names seen (part (term s us p) none) b = b
-  field_names seen (part (term s us p) (part t ts)) b = field_names seen ts (names t b)
+  field_names seen (part h none) b = b
+  field_names seen (part h (part t ts)) b = field_names (with_head seen h) ts (names t (head_names seen h b))
 
   -- definitions, each seen by those after it
   pub definitions : Defs → Walk

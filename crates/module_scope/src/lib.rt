@@ -1,6 +1,7 @@
 //! What each name of the modules means.
 #![tactic(auto)]
 
+mod names;
 mod scope;
 mod walker;
 

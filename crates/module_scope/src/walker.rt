@@ -190,7 +190,8 @@ impl<'a> Walker<'a> {
             primed,
         })?;
         self.scope.enter(def.name.bytes(), number)?;
-        self.symbols.note(def.place, number)
+        self.symbols.note(def.place, number)?;
+        Ok(())
     }
 
     /// A name that means nothing here, as it is shown.
