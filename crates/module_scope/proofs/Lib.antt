@@ -1,3 +1,4 @@
 mod Shadows
 mod Defining
 mod Visits
+mod Fields

@@ -1,5 +1,5 @@
 -- The walk of the code over an expression is the walk of the definition.
-use Rattle.std.proofs.Common.{◌≡◌, ◌≤◌, ◌++◌, suc, List, [], ◌∷◌, fold, map, length, Option, Some, None, refl, sym, ap, subst, ◌∙◌, arith, Bool}
+use Rattle.std.proofs.Common.{◌≡◌, ◌≤◌, ◌++◌, suc, OnOk, Result, List, [], ◌∷◌, fold, map, length, Option, Some, None, refl, sym, ap, subst, ◌∙◌, arith, Bool}
 use Rattle.std.proofs.lemmas.Grind.{fold-append}
 use Rattle.tla_ast.specs.declared.place.Place.{Place}
 use Rattle.tla_ast.specs.declared.tree.Decl.{Decl}
@@ -230,3 +230,6 @@ module _ (n : Node) (b : Book) where
         | _ ↦ λ e. ap (λ (h : Held). visited b (h (map term_of (out-Node n).parts) (out-Node n).place))
             (ap held (as-form _ e) ∙ fold-roll-Form _ _ _ _ _ _ shape_of key_of def_of group_of node_of path_of _)
       ]) refl
+
+pub because : {T E : Type 0} (r : Result T E) (x y z : Book) → y ≡ z → OnOk r (x ≡ z) → OnOk r (x ≡ y)
+because r x y z e h = subst (λ w. OnOk r (x ≡ w)) (sym e) h

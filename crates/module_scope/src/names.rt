@@ -196,11 +196,12 @@ impl<'a> Walker<'a> {
             return Ok(());
         };
         self.expression(alloc, function)?;
+        let paths = paths.as_slice();
         for (at, value) in values.iter().enumerate() {
-            let Some(path) = paths.get(at) else {
+            if at >= paths.len() {
                 return Ok(());
-            };
-            self.keys(alloc, path)?;
+            }
+            self.keys(alloc, &paths[at])?;
             self.expression(alloc, value)?;
         }
         Ok(())
@@ -214,7 +215,10 @@ impl<'a> Walker<'a> {
         let parts = node.parts.as_slice();
         let mut seen = IndexSet::new(alloc);
         let mut at = 0;
-        while at + 1 < parts.len() {
+        while at < parts.len() {
+            if at + 1 == parts.len() {
+                return Ok(());
+            }
             self.field(alloc, &mut seen, &parts[at])?;
             self.expression(alloc, &parts[at + 1])?;
             at += 2;

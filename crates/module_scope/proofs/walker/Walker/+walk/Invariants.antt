@@ -33,4 +33,4 @@ decreases-fields-loop-at l = length l.parts - l.at
 
 abbrev pub invariant-expression-loop-node : goal.invariant-expression-loop-node
 invariant-expression-loop-node l =
-    names (term_of l.fn.node) (book_of l.fn.self) ≡ fold visited (book_of l.self) (map (λ n. term_of n.now) (drop l.node-index l.nodes.items))
+    names (term_of l.fn.node) (book_of l.fn.self) ≡ fold visited (book_of l.self) (map (λ n. term_of n.now) (drop l.node-index l.node-items))
