@@ -2,3 +2,4 @@ mod Shadows
 mod Defining
 mod Visits
 mod Fields
+mod Steps

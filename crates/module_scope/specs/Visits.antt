@@ -1,6 +1,8 @@
 -- The walk in the steps of the code: operators one after another, and the parts of forms on the trees of the source.
-use Rattle.std.specs.Prelude.{List, [], ◌∷◌, map, Option, Some, None}
+use Rattle.std.specs.Prelude.{◌≡◌, List, [], ◌∷◌, map, Option, Some, None}
 use Rattle.tla_ast.specs.declared.tree.Node.{Node, out-Node}
+use Rattle.tla_ast.specs.declared.tree.Form.TheVariants as form
+use Rattle.tla_ast.specs.declared.tree.Path.{Path}
 use Rattle.tla_ast.specs.declared.tree.Group.{Group, out-Group}
 use Rattle.tla_ast.specs.declared.tree.Def.{Def, out-Def}
 use Rattle.tla_ast.specs.declared.tree.Key.{Key}
@@ -44,3 +46,7 @@ key_step b k = key_names (key_keys k end_keys) b
 abbrev pub except_names : List Keys → List Term → Walk
 except_names ks [] b = b
 except_names ks (t ∷ ts) b = update_names (updates_of ks ts) (names t b)
+
+-- an EXCEPT
+abbrev pub IsExcept : Node → Type 0
+IsExcept n = (ps : List Path) × ((out-Node n).form ≡ form.Except ps)

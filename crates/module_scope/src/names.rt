@@ -1,11 +1,10 @@
 //! The names of an expression.
 
-ghost use Rattle.std.specs.Prelude.{◌≡◌, List, [], length, fold, map, OnOk};
+ghost use Rattle.std.specs.Prelude.{◌≡◌, [], length, fold, map, OnOk};
 ghost use Rattle.tla_ast.specs.declared.tree.Node.{out-Node};
 ghost use Rattle.tla_ast.specs.declared.tree.Group.{out-Group};
 ghost use Rattle.tla_ast.specs.declared.tree.Path.{out-Path};
-ghost use Rattle.tla_ast.specs.declared.tree.Form.TheVariants as form;
-ghost use Rattle.plain_syntax.specs.Syntax.{term_of, terms_of, keys_of};
+ghost use Rattle.plain_syntax.specs.Syntax.{term_of, terms_of};
 ghost use Rattle.module_scope.specs.Known.{book_of, texts, parts_in};
 ghost use Rattle.module_scope.specs.Names as spec;
 ghost use Rattle.module_scope.specs.Visits as visit;
@@ -186,8 +185,8 @@ impl<'a> Walker<'a> {
     /// The function and the updates of an EXCEPT.
     #[cycle(walk)]
     fn except(&mut self, alloc: Global, node: &'a Node) -> Result<(), Memory>
-        ensures { (paths : List Path) → (out-Node node.now).form ≡ form.Except paths → OnOk result (book_of self.new
-            ≡ visit.except_names (map keys_of paths) (map term_of (out-Node node.now).parts) (book_of self.old)) }
+        ensures { visit.IsExcept node.now → OnOk result (book_of self.new
+            ≡ visit.visited (book_of self.old) (term_of node.now)) }
     {
         let Form::Except(paths) = &node.form else {
             return Ok(());

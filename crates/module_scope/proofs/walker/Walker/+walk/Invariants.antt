@@ -1,4 +1,4 @@
-use Rattle.std.proofs.Common.{◌≡◌, ◌-◌, [], length, map, drop, fold}
+use Rattle.std.proofs.Common.{◌≡◌, ◌+◌, ◌*◌, ◌-◌, [], length, map, drop, fold}
 use Rattle.tla_ast.specs.declared.tree.Path.{out-Path}
 use Rattle.plain_syntax.specs.Syntax.{term_of, terms_of, keys_of, updates_of}
 use Rattle.module_scope.specs.Known.{book_of, texts}
@@ -34,3 +34,45 @@ decreases-fields-loop-at l = length l.parts - l.at
 abbrev pub invariant-expression-loop-node : goal.invariant-expression-loop-node
 invariant-expression-loop-node l =
     names (term_of l.fn.node) (book_of l.fn.self) ≡ fold visited (book_of l.self) (map (λ n. term_of n.now) (drop l.node-index l.node-items))
+
+abbrev pub decreases-all : goal.decreases-all
+decreases-all l = 4 * goal.size-all l + 3
+
+abbrev pub decreases-application : goal.decreases-application
+decreases-application l = 4 * goal.size-application l + 0
+
+abbrev pub decreases-binder : goal.decreases-binder
+decreases-binder l = 4 * goal.size-binder l + 0
+
+abbrev pub decreases-definition : goal.decreases-definition
+decreases-definition l = 4 * goal.size-definition l + 0
+
+abbrev pub decreases-definitions : goal.decreases-definitions
+decreases-definitions l = 4 * goal.size-definitions l + 1
+
+abbrev pub decreases-domain : goal.decreases-domain
+decreases-domain l = 4 * goal.size-domain l + 0
+
+abbrev pub decreases-domains : goal.decreases-domains
+decreases-domains l = 4 * goal.size-domains l + 1
+
+abbrev pub decreases-except : goal.decreases-except
+decreases-except l = 4 * goal.size-except l + 0
+
+abbrev pub decreases-expression : goal.decreases-expression
+decreases-expression l = 4 * goal.size-expression l + 2
+
+abbrev pub decreases-fields : goal.decreases-fields
+decreases-fields l = 4 * goal.size-fields l + 0
+
+abbrev pub decreases-inside : goal.decreases-inside
+decreases-inside l = 4 * goal.size-inside l + 0
+
+abbrev pub decreases-key : goal.decreases-key
+decreases-key l = 4 * goal.size-key l + 0
+
+abbrev pub decreases-keys : goal.decreases-keys
+decreases-keys l = 4 * goal.size-keys l + 0
+
+abbrev pub decreases-visit : goal.decreases-visit
+decreases-visit l = 4 * goal.size-visit l + 1
