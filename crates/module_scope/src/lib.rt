@@ -3,6 +3,7 @@
 
 mod names;
 mod scope;
+mod statement;
 mod walker;
 
 pub use scope::Scope;
