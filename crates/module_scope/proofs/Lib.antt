@@ -3,3 +3,5 @@ mod Defining
 mod Visits
 mod Fields
 mod Steps
+mod Cited
+mod Proofs

@@ -24,9 +24,9 @@ use Rattle.plain_syntax.specs.Order.{order, orders}
 use Rattle.plain_syntax.proofs.Forms.{held, by-form, is-prefixed, is-infixed, is-prime, is-index, is-field, is-name, is-call, is-filter, is-image, is-function, is-fields, is-field-sets, is-except, is-quantifier, is-choice, is-local, is-path, is-group, is-def}
 use Rattle.symbol_table.specs.declared.entry.EntrySort.{EntrySort}
 use Rattle.symbol_table.specs.declared.entry.EntrySort.TheVariants as sorts
-use Rattle.module_scope.specs.Names.{Book, scope_of, left, names, all_names, bound_names, set_names, bind_names, definitions, key_names, update_names, field_names, with_head, head_names, named, count, prefix_name, infix_name, each, declare_name}
+use Rattle.module_scope.specs.Names.{Book, scope_of, left, names, all_names, bound_names, set_names, bind_names, definitions, key_names, update_names, field_names, with_head, head_names, named, count, prefix_name, infix_name, each, declare_name, judged_bodies, group_sets, domain}
 use Rattle.module_scope.specs.Known.{parts_in}
-use Rattle.module_scope.specs.Visits.{visited, bind_group, domain_names, set_group, define_step, key_step, except_names}
+use Rattle.module_scope.specs.Visits.{visited, bind_group, domain_names, set_group, define_step, key_step, except_names, body_step, choice_set}
 
 -- ---- operators, one after another
 
@@ -233,3 +233,18 @@ module _ (n : Node) (b : Book) where
 
 pub because : {T E : Type 0} (r : Result T E) (x y z : Book) → y ≡ z → OnOk r (x ≡ z) → OnOk r (x ≡ y)
 because r x y z e h = subst (λ w. OnOk r (x ≡ w)) (sym e) h
+
+-- ---- definitions and choices of proofs
+
+pub judges-all : (ds : List Def) (b : Book) → judged_bodies (each_def ds) b ≡ fold body_step b ds
+judges-all [] b = refl
+judges-all (d ∷ ds) b = ap (λ (f : Defs → Defs). judged_bodies (f (each_def ds)) b) (is-def d) ∙ judges-all ds (body_step b d)
+
+choices-made : (ns : List Decl) (o : Option Node) (rest : Groups) (b : Book) → group_sets (with_domain ns (set_of o) rest) b ≡ group_sets rest (domain (set_of o) b)
+choices-made ns None rest b = refl
+choices-made ns (Some n) rest b = refl
+
+pub choices-all : (gs : List Group) (b : Book) → group_sets (each_group gs) b ≡ fold choice_set b gs
+choices-all [] b = refl
+choices-all (g ∷ gs) b =
+    ap (λ (f : Groups → Groups). group_sets (f (each_group gs)) b) (is-group g) ∙ choices-made (out-Group g).names (out-Group g).domain (each_group gs) b ∙ choices-all gs (choice_set b g)

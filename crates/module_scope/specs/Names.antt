@@ -278,11 +278,11 @@ abbrev mutual
 -- ---- statements and proofs
 
 -- the faults of levels in an expression
-abbrev pub judged : Term → Walk
+unfoldable pub judged : Term → Walk
 judged t b = each (refused kind.Level) (level (means b) (levels_of b) 0 t).1 b
 
 -- an expression by itself
-abbrev pub alone : Term → Walk
+unfoldable pub alone : Term → Walk
 alone t = names t >> judged t
 
 abbrev pub each_alone : Terms → Walk
@@ -294,7 +294,7 @@ judged_bodies end_defs b = b
 judged_bodies (def w ps t p ds) b = judged_bodies ds (judged t b)
 
 -- definitions of a module or a proof
-abbrev pub define : Defs → Walk
+unfoldable pub define : Defs → Walk
 define ds = definitions ds >> judged_bodies ds
 
 abbrev pub domain : Option Term → Walk
@@ -313,7 +313,7 @@ abbrev pub item_names : Item → Walk
 item_names (new s d t) = domain t >> declare_name (new_sort s) (new_level s) d
 item_names (given t) = alone t
 
-abbrev pub stated : Statement → Walk
+unfoldable pub stated : Statement → Walk
 stated s = each item_names s.items >> alone s.goal
 
 -- the sets of the names that TAKE and PICK choose
@@ -322,7 +322,7 @@ group_sets end_groups b = b
 group_sets (free ds gs) b = group_sets gs b
 group_sets (within ds t gs) b = group_sets gs (alone t b)
 
-abbrev pub chosen : Groups → Walk
+unfoldable pub chosen : Groups → Walk
 chosen gs = group_sets gs >> bind_names sorts.Constant gs
 
 -- the number, where it is a fact's
@@ -330,14 +330,21 @@ abbrev pub fact_of : Book → Option ℕ → Option ℕ
 fact_of b None = None
 fact_of b (Some n) = if is_fact (entry b n).sort then Some n else None
 
--- a name alone that is a fact's is cited; anything else is an expression
-abbrev pub cited_as : Option ℕ → Text → Place → Walk
-cited_as None w p b = alone (term (name w) none p) b
-cited_as (Some x) w p b = stands x p b
+-- the number of the fact that an expression names, where it is the name of a fact
+abbrev pub named_fact : Book → Term → Option ℕ
+named_fact b (term (name w) none p) = fact_of b (found w (scope_of b))
+named_fact b t = None
 
-abbrev pub cited : Term → Walk
-cited (term (name w) none p) b = cited_as (fact_of b (found w (scope_of b))) w p b
-cited t b = alone t b
+abbrev pub place_of : Term → Place
+place_of (term s ts p) = p
+
+-- a name alone that is a fact's is cited; anything else is an expression
+abbrev pub cited_as : Option ℕ → Term → Walk
+cited_as None t b = alone t b
+cited_as (Some x) t b = stands x (place_of t) b
+
+unfoldable pub cited : Term → Walk
+cited t b = cited_as (named_fact b t) t b
 
 abbrev pub fact_names : Fact → Walk
 fact_names (step_name l w p) b = b
@@ -347,7 +354,7 @@ fact_names (whole p t) b = cited t b
 abbrev pub unfolded : Decl → Walk
 unfolded d b = of_sort is_definition (found d.name (scope_of b)) d.name d.place b
 
-abbrev pub facts : List Fact → List Decl → Walk
+unfoldable pub facts : List Fact → List Decl → Walk
 facts fs ds = each fact_names fs >> each unfolded ds
 
 -- a step, with the walk over its own proof
@@ -389,15 +396,22 @@ abbrev pub assumed_at : ℕ → Place → Walk
 assumed_at zero p b = b
 assumed_at (suc l) p b = refused kind.AssumeLevel p b
 
-abbrev pub assumed : Place → Term → Walk
+unfoldable pub assumed : Place → Term → Walk
 assumed p t b = assumed_at (level (means b) (levels_of b) 0 t).0 p b
+
+unfoldable pub assumption : Place → Option Decl → Term → Walk
+assumption p w t = fresh_name w >> alone t >> assumed p t >> fact_name sorts.Assume w
+
+-- what the statement and the proof declare is not seen after them
+unfoldable pub theorem : Option Decl → Statement → Proof → Walk
+theorem w s proof = fresh_name w >> inside (stated s >> proof_names proof) >> fact_name sorts.Theorem w
 
 abbrev pub unit_names : Place → UnitKind → Walk
 unit_names p (u.constants ds) = each (declare sorts.Constant 0) ds
 unit_names p (u.variables ds) = each (declare sorts.State 1) ds
-unit_names p (u.assume w t) = fresh_name w >> alone t >> assumed p t >> fact_name sorts.Assume w
+unit_names p (u.assume w t) = assumption p w t
 unit_names p (u.definition ds) = define ds
-unit_names p (u.theorem w s proof) = fresh_name w >> inside (stated s >> proof_names proof) >> fact_name sorts.Theorem w
+unit_names p (u.theorem w s proof) = theorem w s proof
 
-abbrev pub unit : Unit → Walk
+unfoldable pub unit : Unit → Walk
 unit x = unit_names x.place x.kind

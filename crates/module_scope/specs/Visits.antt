@@ -1,21 +1,20 @@
 -- The walk in the steps of the code: operators one after another, and the parts of forms on the trees of the source.
-use Rattle.std.specs.Prelude.{◌≡◌, ℕ, List, [], ◌∷◌, map, Option, Some, None}
+use Rattle.std.specs.Prelude.{◌≡◌, List, [], ◌∷◌, map, Option, Some, None}
 use Rattle.tla_ast.specs.declared.tree.Node.{Node, out-Node}
 use Rattle.tla_ast.specs.declared.tree.Form.TheVariants as form
 use Rattle.tla_ast.specs.declared.tree.Path.{Path}
 use Rattle.tla_ast.specs.declared.tree.Group.{Group, out-Group}
 use Rattle.tla_ast.specs.declared.tree.Def.{Def, out-Def}
 use Rattle.tla_ast.specs.declared.tree.Key.{Key}
+use Rattle.tla_ast.specs.declared.unit.Step.{Step, out-Step}
 use Rattle.plain_syntax.specs.Plain.{Term, Keys}
 use Rattle.plain_syntax.specs.Plain.Term.{term}
-use Rattle.plain_syntax.specs.Plain.Shape.{name, prefixed, infixed, prime, index, field}
-use Rattle.plain_syntax.specs.Plain.Terms.{none, part}
+use Rattle.plain_syntax.specs.Plain.Shape.{prefixed, infixed, prime, index, field}
 use Rattle.plain_syntax.specs.Plain.Keys.{end_keys}
-use Rattle.module_scope.specs.Scope.{found}
-use Rattle.plain_syntax.specs.Syntax.{term_of, key_keys, updates_of, set_of}
+use Rattle.plain_syntax.specs.Syntax.{term_of, key_keys, updates_of, set_of, move_of, proof_of}
 use Rattle.symbol_table.specs.declared.entry.EntrySort.{EntrySort}
 use Rattle.symbol_table.specs.declared.entry.EntrySort.TheVariants as sorts
-use Rattle.module_scope.specs.Names.{Book, Walk, each, inside, ◌>>◌, declare_name, names, prefix_name, infix_name, key_names, update_names, fresh, defined, judged, domain, fact_of, scope_of}
+use Rattle.module_scope.specs.Names.{Book, Walk, each, inside, ◌>>◌, declare_name, names, prefix_name, infix_name, key_names, update_names, fresh, defined, judged, domain, move_names, proof_names}
 
 -- an expression, where the operands of an operator are walked already
 abbrev pub visited : Book → Term → Book
@@ -61,7 +60,6 @@ body_step b d = judged (term_of (out-Def d).body) b
 abbrev pub choice_set : Book → Group → Book
 choice_set b g = domain (set_of (out-Group g).domain) b
 
--- the number of the fact that an expression names, where it is the name of a fact
-abbrev pub named_fact : Book → Term → Option ℕ
-named_fact b (term (name w) none p) = fact_of b (found w (scope_of b))
-named_fact b t = None
+-- a step, with its proof
+abbrev pub step_names : Book → Step → Book
+step_names b s = move_names (move_of (out-Step s).kind) (proof_names (proof_of (out-Step s).proof)) b

@@ -2,8 +2,10 @@
 #![tactic(auto)]
 
 mod names;
+mod proof;
 mod scope;
 mod statement;
+mod unit;
 mod walker;
 
 pub use scope::Scope;

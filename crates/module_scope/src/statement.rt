@@ -49,6 +49,7 @@ impl<'a> Walker<'a> {
     }
 
     /// The faults of levels in an expression whose names are walked.
+    #[tactic(auto, unfolding(crate::specs::Names::judged))]
     pub fn judge(&mut self, alloc: Global, node: &Node) -> Result<(), Memory>
         ensures { OnOk result (book_of self.new ≡ spec.judged (term_of node.now) (book_of self.old)) }
     {
@@ -171,12 +172,12 @@ impl<'a> Walker<'a> {
 
     /// The number of the fact that an expression names, where it is the name of a fact.
     fn named_fact(&self, node: &Node) -> Option<u64>
-        ensures { result ≡ visit.named_fact (book_of self.now) (term_of node.now) }
+        ensures { result ≡ spec.named_fact (book_of self.now) (term_of node.now) }
     {
         let Form::Name(name) = &node.form else {
             return None;
         };
-        if !node.parts.is_empty() {
+        if node.parts.len() > 0 {
             return None;
         }
         self.fact(name.bytes())

@@ -1,10 +1,10 @@
 //! What is known at a place of a module, and what a single name does to it.
 
-ghost use Rattle.std.specs.Prelude.{◌≡◌, length, IfOk, OnOk};
+ghost use Rattle.std.specs.Prelude.{◌≡◌, length, map, drop, reverse, IfOk, OnOk};
 ghost use Rattle.tla_ast.specs.declared.tree.Def.{out-Def};
 ghost use Rattle.tla_ast.specs.declared.fault.Kind.TheVariants as kind;
 ghost use Rattle.plain_syntax.specs.Syntax.{term_of};
-ghost use Rattle.module_scope.specs.Scope.{found};
+ghost use Rattle.module_scope.specs.Scope.{found, seen};
 ghost use Rattle.module_scope.specs.Known.{book_of};
 ghost use Rattle.module_scope.specs.Names as spec;
 
@@ -281,5 +281,22 @@ impl<'a> Walker<'a> {
             Some(number) if is_fact(self.sort(number)) => Some(number),
             _ => None,
         }
+    }
+
+    /// Takes the names that were declared since there were so many out of the scope, and gives them, the newest first.
+    pub fn withdraw(&mut self, alloc: Global, mark: usize) -> Result<Vec<(&'a [u8], u64)>, Memory>
+        ensures left { OnOk result (book_of self.new ≡ spec.left mark (book_of self.old)) }
+        ensures taken { IfOk result (λ names. reverse (map seen names.items)
+            ≡ drop mark (spec.scope_of (book_of self.old))) }
+    {
+        self.scope.withdraw(alloc, mark)
+    }
+
+    /// Puts names into the scope, the last first.
+    pub fn restore(&mut self, names: Vec<(&'a [u8], u64)>) -> Result<(), Memory>
+        ensures { OnOk result (book_of self.new
+            ≡ spec.with_more (reverse (map seen names.entry.items)) (book_of self.old)) }
+    {
+        self.scope.restore(names)
     }
 }
