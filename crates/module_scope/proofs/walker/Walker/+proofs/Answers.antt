@@ -1,9 +1,10 @@
-use Rattle.std.proofs.Common.{◌+◌, map, fold, arith, refl, sym, ap, ◌∙◌}
+use Rattle.std.proofs.Common.{◌+◌, map, reverse, fold, arith, refl, sym, ap, ◌∙◌}
 use Rattle.tla_ast.specs.declared.unit.Step.{out-Step}
 use Rattle.tla_ast.specs.declared.unit.StepKind.{StepKind}
 use Rattle.plain_syntax.specs.Syntax.{term_of, terms_of, statement_of, proof_of, fact_of, move_of, each_group, each_def}
+use Rattle.module_scope.specs.Scope.{seen}
 use Rattle.module_scope.specs.Known.{book_of}
-use Rattle.module_scope.specs.Names.{Walk, ◌>>◌, alone, stated, chosen, each_alone, define, facts, move_names, proof_names, left}
+use Rattle.module_scope.specs.Names.{Walk, ◌>>◌, alone, stated, chosen, each_alone, define, facts, move_names, proof_names, left, with_more}
 use Rattle.module_scope.specs.Visits.{step_names}
 use Rattle.module_scope.proofs.Visits.{because}
 use Rattle.module_scope.proofs.Steps.{inside-is, folded, next}
@@ -70,13 +71,23 @@ pub step-returns-in_ok-proof-in-Suffices : goal.step-returns-in_ok-proof-in-Suff
 step-returns-in_ok-proof-in-Suffices t c =
     let sub = proof_names (proof_of (out-Step c.args.step.now).proof) in
     let b = book_of c.args.self.now in
-    because _ _ _ _ (?) c.restore.ensures
+    let d = book_of c.proof-in-Suffices.new.self in
+    let more = reverse (map seen c.in_ok-names-in-Suffices.names.items) in
+    because _ _ _ _ (ap (λ (k : StepKind). move_names (move_of k) sub b) c.in-Suffices.is
+    ∙ sym (unseen-is (stated (statement_of c.in-Suffices.statement)) sub b (book_of c.statement-in-Suffices.new.self) (book_of c.withdraw.new.self) d (with_more more d) c.mark-mark-in-Suffices.result more
+        c.mark-mark-in-Suffices.ensures c.in_ok-statement-in-Suffices.ensures c.in_ok-names-in-Suffices.ensures.left c.in_ok-names-in-Suffices.ensures.taken c.in_ok-proof-in-Suffices.ensures refl)) c.restore.ensures
 
 pub step-returns-in_ok-proof-in-Pick : goal.step-returns-in_ok-proof-in-Pick
 step-returns-in_ok-proof-in-Pick t c =
     let sub = proof_names (proof_of (out-Step c.args.step.now).proof) in
     let b = book_of c.args.self.now in
-    because _ _ _ _ (?) c.restore-in-Pick.ensures
+    let d = book_of c.proof-in-Pick.new.self in
+    let more = reverse (map seen c.in_ok-names-in-Pick.names.items) in
+    let t = term_of c.in-Pick.node in
+    because _ _ _ _ (ap (λ (k : StepKind). move_names (move_of k) sub b) c.in-Pick.is
+    ∙ sym (unseen-is (chosen (each_group c.in-Pick.groups) >> alone t) sub b (book_of c.alone.new.self) (book_of c.withdraw-in-Pick.new.self) d (with_more more d) c.mark-mark-in-Pick.result more
+        c.mark-mark-in-Pick.ensures (c.in_ok-alone-in-Pick.ensures ∙ ap (alone t) (c.in_ok-choose-in-Pick.ensures ∙ ap (λ gs. chosen (each_group gs) b) c.as_slice.ensures))
+        c.in_ok-names-in-Pick.ensures.left c.in_ok-names-in-Pick.ensures.taken c.in_ok-proof-in-Pick.ensures refl)) c.restore-in-Pick.ensures
 
 pub steps-loop-step-preserved : goal.steps-loop-step-preserved
 steps-loop-step-preserved t c =
@@ -86,7 +97,7 @@ steps-loop-step-preserved t c =
 pub proof-returns-in-By : goal.proof-returns-in-By
 proof-returns-in-By t c =
     because _ _ _ _ (ap (λ p. proof_names p (book_of c.args.self.now)) (is-by c.args.proof.now _ _ _ _ c.in-By.is)
-    ∙ (λ i. facts (map fact_of (sym c.as_slice.ensures i)) (sym c.as_slice-2.ensures i) (book_of c.args.self.now))) c.facts.ensures
+    ∙ (λ i. facts (map fact_of (sym c.as_slice.ensures i)) (sym c.as_slice-in-By.ensures i) (book_of c.args.self.now))) c.facts.ensures
 
 pub proof-returns-in_ok-steps-in-Steps : goal.proof-returns-in_ok-steps-in-Steps
 proof-returns-in_ok-steps-in-Steps t c =
