@@ -1,12 +1,15 @@
 //! What each name of the modules means.
 #![tactic(auto)]
 
+mod extend;
+mod library;
+mod modules;
 mod names;
 mod proof;
+
 mod scope;
 mod statement;
 mod unit;
 mod walker;
 
-pub use scope::Scope;
-pub use walker::Walker;
+pub use modules::resolve;

@@ -131,4 +131,15 @@ impl<'a> Scope<'a> {
         }
         Ok(())
     }
+
+    /// The names in scope with their numbers.
+    pub fn names(&self, alloc: Global) -> Result<Vec<(&'a [u8], u64)>, Memory>
+        ensures { IfOk result (λ names. map spec.seen names.items ≡ self.now) }
+    {
+        let mut names = Vec::new(alloc);
+        for named in &self.names {
+            names.push((named.name, named.number))?;
+        }
+        Ok(names)
+    }
 }
