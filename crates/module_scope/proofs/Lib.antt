@@ -5,3 +5,4 @@ mod Fields
 mod Steps
 mod Cited
 mod Proofs
+mod Turns

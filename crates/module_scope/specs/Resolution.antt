@@ -1,6 +1,8 @@
 -- The names of all modules.
 use Rattle.std.specs.Prelude.{ℕ, suc, Bool, true, false, not, ◌&&◌, ◌||◌, nat_eq, nat_lt, if◌then◌else◌, fold, List, [], ◌∷◌, ◌++◌, map, Option, Some, None, Result, Ok, Err, codes}
+use Rattle.std.specs.Cmp.Lexicographic.{slice_cmp}
 use Rattle.std.specs.Option.{is_some}
+use Rattle.std.specs.Ordering.{is_lt, nat_cmp}
 use Rattle.std_names.specs.Libraries as libraries
 use Rattle.tla_ast.specs.declared.place.Place.{Place}
 use Rattle.tla_ast.specs.Place.{before}
@@ -70,10 +72,7 @@ clashes (Some m) n = not (nat_eq m n)
 
 -- byte order
 abbrev pub precedes : Text → Text → Bool
-precedes [] [] = false
-precedes [] (b ∷ bs) = true
-precedes (a ∷ rest) [] = false
-precedes (a ∷ rest) (b ∷ bs) = nat_lt a b || (nat_eq a b && precedes rest bs)
+precedes w v = is_lt (slice_cmp nat_cmp w v)
 
 abbrev pub lesser : Text → Option Text → Option Text
 lesser w None = Some w

@@ -26,15 +26,7 @@ pub struct Export<'a> {
 fn precedes(left: &[u8], right: &[u8]) -> bool
     ensures { result ≡ spec.precedes left.now right.now }
 {
-    for (at, byte) in left.iter().enumerate() {
-        if at >= right.len() {
-            return false;
-        }
-        if *byte != right[at] {
-            return *byte < right[at];
-        }
-    }
-    left.len() < right.len()
+    left.cmp(right).is_lt()
 }
 
 /// The names that the first module of a name gives; none where there is no such module.
@@ -99,7 +91,7 @@ impl<'a> Scope<'a> {
 
 /// The lesser of a name and the least so far, if there is one.
 fn lesser<'a>(name: &'a [u8], least: Option<&'a [u8]>) -> Option<&'a [u8]>
-    ensures { option_map (λ w. w.now) result ≡ spec.lesser name.now (option_map (λ w. w.now) least) }
+    ensures { option_map (λ w. w.now) result ≡ spec.lesser name.now (option_map (λ w. w.now) least.entry) }
 {
     match least {
         None => Some(name),

@@ -43,7 +43,7 @@ fn sooner(least: Option<(Place, Kind)>, fault: (Place, Kind)) -> Option<(Place, 
 
 /// The fault that is told, of several.
 fn least(faults: Vec<(Place, Kind)>) -> Option<(Place, Kind)>
-    ensures { result ≡ spec.least faults.entry.items }
+    ensures { result ≡ spec.least faults.items }
 {
     let mut least = None;
     for fault in faults {
@@ -71,7 +71,7 @@ impl<'a> Walker<'a> {
     fn begin(&mut self, alloc: Global)
         ensures { book_of self.new ≡ spec.emptied (book_of self.old) }
     {
-        self.scope = Scope::new(alloc);
+        self.scope.leave(0);
         self.symbols = Symbols::new(alloc);
         self.faults = Vec::new(alloc);
     }
