@@ -1,5 +1,6 @@
 -- One module after another.
 use Rattle.std.proofs.Common.{◌≡◌, ℕ, List, [], ◌∷◌, ◌++◌, Option, Some, None, Result, Ok, Err, refl, sym, ap, ◌∙◌}
+use Rattle.std.specs.Result.{IsErrAnd}
 use Rattle.tla_ast.specs.declared.place.Place.{Place}
 use Rattle.tla_ast.specs.declared.fault.Kind.{Kind}
 use Rattle.tla_ast.specs.declared.fault.ScopeFault.{ScopeFault}
@@ -12,7 +13,7 @@ use Rattle.module_scope.specs.Scope.{Scope}
 use Rattle.module_scope.specs.Names.{Book, scope_of, symbols_of, faults_of}
 use Rattle.module_scope.specs.Names.Book.{book}
 use Rattle.module_scope.specs.Resolution.{Exports, module_names, least, emptied, resolved, after_module}
-use Rattle.module_scope.specs.Finished.{Finished, Refused}
+use Rattle.module_scope.specs.Finished.{Finished, Refused, Answers}
 
 module _ (es : Exports) (m : Module) (b : Book) (ss : Scope) (ns : List Entry) (ls : Levels) (ys : List (Place × ℕ)) (fs : List (Place × Kind)) (walked : book ss ns ls ys fs ≡ module_names es m b) where
   pub finished-is : (export : Text × Scope) (symbols ys2 : List (Place × ℕ)) (fs2 : List (Place × Kind)) → None ≡ least fs → export ≡ (m.name, ss) → symbols ≡ ys → Finished es m b (book ss ns ls ys2 fs2) export symbols
@@ -42,3 +43,8 @@ module _ (es : Exports) (ss : List (List (Place × ℕ))) (m : Module) (ms : Lis
       let r = refused here in
       let c = module_names es m b in
       so_far ∙ ap (λ o. after_module m.name c o (resolved (es ++ (m.name, scope_of c) ∷ []) (ss ++ symbols_of c ∷ []) ms)) r.1 ∙ ap Err (sym r.2)
+
+-- a fault is passed on as it is
+pub err-answers : (r : Result Table ScopeFault) (e : ScopeFault) (defined : Result Table ScopeFault) → IsErrAnd r (λ x. x ≡ e) → ((e ≡ fault.Memory → ⊥) → defined ≡ Err e) → Answers r defined
+err-answers (Ok t) e defined h f = absurd h
+err-answers (Err x) e defined h f = λ n. f (λ q. n (h ∙ q)) ∙ ap Err (sym h)
