@@ -26,7 +26,6 @@ pub flop : (a b : Bool) → a ≡ not b → a ≡ false → b ≡ true
 flop a true e f = refl
 flop a false e f = absurd (true≢false (sym e ∙ f))
 
-
 -- the set has a field exactly where it was named
 pub listed : (k : Bor (List ℕ)) (ks : List (Bor (List ℕ))) → list_any (same_name k) ks ≡ has_field (map (λ x. x.now) ks) k.now
 listed k [] = refl

@@ -6,3 +6,4 @@ mod Steps
 mod Cited
 mod Proofs
 mod Turns
+mod Rows

@@ -202,8 +202,11 @@ defined w ds t p b =
     let has = definition_level (means b) (levels_of b) ds t in
     entered
     (record {
-      name = w; sort = sorts.Definition; arity = length ds; level = (has []).0;
-      primed = primed_parameters (means b) (flags_of (entries_of b)) ds t
+      name = w;
+      sort = sorts.Definition;
+      arity = length ds;
+      level = (has []).0;
+      primed = primed_parameters (means b) (flags_of (entries_of b)) ds t;
     })
     has p b
 

@@ -66,7 +66,11 @@ impl<'a> Scope<'a> {
     }
 
     /// The names, of those that come in, that are not in scope yet.
-    fn unknown(&self, alloc: Global, new: &[(&'a [u8], u64)]) -> Result<Vec<(&'a [u8], u64)>, Memory>
+    fn unknown(
+        &self,
+        alloc: Global,
+        new: &[(&'a [u8], u64)],
+    ) -> Result<Vec<(&'a [u8], u64)>, Memory>
         ensures { IfOk result (λ names. map seen names.items ≡ spec.unknown self.now (map seen new.now)) }
     {
         let mut names = Vec::new(alloc);
@@ -123,7 +127,13 @@ impl<'a> Walker<'a> {
     }
 
     /// A name of an EXTENDS.
-    fn extend(&mut self, alloc: Global, exports: &[Export<'a>], name: &[u8], place: Place) -> Result<(), Memory>
+    fn extend(
+        &mut self,
+        alloc: Global,
+        exports: &[Export<'a>],
+        name: &[u8],
+        place: Place,
+    ) -> Result<(), Memory>
         ensures { OnOk result (book_of self.new
             ≡ spec.extend (exports_of exports.now) (name.now, place) (book_of self.old)) }
     {
@@ -135,7 +145,12 @@ impl<'a> Walker<'a> {
     }
 
     /// The names of an EXTENDS, one after another.
-    pub fn extend_all(&mut self, alloc: Global, exports: &[Export<'a>], extends: &[(Text, Place)]) -> Result<(), Memory>
+    pub fn extend_all(
+        &mut self,
+        alloc: Global,
+        exports: &[Export<'a>],
+        extends: &[(Text, Place)],
+    ) -> Result<(), Memory>
         ensures { OnOk result (book_of self.new
             ≡ names.each (spec.extend (exports_of exports.now)) extends.now (book_of self.old)) }
     {

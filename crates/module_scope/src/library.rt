@@ -60,10 +60,7 @@ fn entries_of(alloc: Global, table: &[(&[u8], EntrySort, u64)]) -> Result<Vec<En
 }
 
 /// The entries that come before all others.
-#[tactic(
-    auto,
-    unfolding(crate::specs::Resolution::library_entries, std_names::specs::Libraries::names)
-)]
+#[tactic(auto, unfolding(crate::specs::Resolution::library_entries, std_names::specs::Libraries::names))]
 pub fn library_entries(alloc: Global) -> Result<Vec<Entry>, Memory>
     ensures { IfOk result (λ es. es.items ≡ spec.library_entries) }
 {
@@ -88,10 +85,7 @@ fn given<'a>(
 }
 
 /// The names that a library gives, with their numbers.
-#[tactic(
-    auto,
-    unfolding(crate::specs::Resolution::library_scope, crate::specs::Resolution::library_entries, std_names::specs::Libraries::names)
-)]
+#[tactic(auto, unfolding(crate::specs::Resolution::library_scope, crate::specs::Resolution::library_entries, std_names::specs::Libraries::names))]
 pub fn library_names<'a>(alloc: Global, owner: &[u8]) -> Result<Vec<(&'a [u8], u64)>, Memory>
     ensures { IfOk result (λ names. map seen names.items ≡ spec.library_scope owner.now) }
 {

@@ -77,7 +77,12 @@ impl<'a> Walker<'a> {
     }
 
     /// The names of a module.
-    fn walk(&mut self, alloc: Global, exports: &[Export<'a>], module: &'a Module) -> Result<(), Memory>
+    fn walk(
+        &mut self,
+        alloc: Global,
+        exports: &[Export<'a>],
+        module: &'a Module,
+    ) -> Result<(), Memory>
         ensures { OnOk result (book_of self.new
             ≡ spec.module_names (exports_of exports.now) (module_of «module».now) (book_of self.old)) }
     {

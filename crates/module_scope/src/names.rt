@@ -19,7 +19,12 @@ use tla_ast::{Decl, Def, Form, Group, Key, Kind, Node, Path};
 
 impl<'a> Walker<'a> {
     /// Names that are declared without parameters, constants or bound.
-    pub fn bind_all(&mut self, alloc: Global, sort: EntrySort, decls: &'a [Decl]) -> Result<(), Memory>
+    pub fn bind_all(
+        &mut self,
+        alloc: Global,
+        sort: EntrySort,
+        decls: &'a [Decl],
+    ) -> Result<(), Memory>
         ensures { OnOk result (book_of self.new
             ≡ spec.each (spec.declare_name sort 0) decls.now (book_of self.old)) }
     {
@@ -30,14 +35,24 @@ impl<'a> Walker<'a> {
     }
 
     /// The names of a group.
-    pub fn bind_group(&mut self, alloc: Global, sort: EntrySort, group: &'a Group) -> Result<(), Memory>
+    pub fn bind_group(
+        &mut self,
+        alloc: Global,
+        sort: EntrySort,
+        group: &'a Group,
+    ) -> Result<(), Memory>
         ensures { OnOk result (book_of self.new ≡ visit.bind_group sort (book_of self.old) group.now) }
     {
         self.bind_all(alloc, sort, group.names.as_slice())
     }
 
     /// The names of several groups.
-    pub fn bind_groups(&mut self, alloc: Global, sort: EntrySort, groups: &'a [Group]) -> Result<(), Memory>
+    pub fn bind_groups(
+        &mut self,
+        alloc: Global,
+        sort: EntrySort,
+        groups: &'a [Group],
+    ) -> Result<(), Memory>
         ensures { OnOk result (book_of self.new
             ≡ fold (visit.bind_group sort) (book_of self.old) groups.now) }
     {
@@ -48,7 +63,12 @@ impl<'a> Walker<'a> {
     }
 
     /// The name of a field, which is not named twice.
-    fn field(&mut self, alloc: Global, seen: &mut IndexSet<&'a [u8]>, node: &'a Node) -> Result<(), Memory>
+    fn field(
+        &mut self,
+        alloc: Global,
+        seen: &mut IndexSet<&'a [u8]>,
+        node: &'a Node,
+    ) -> Result<(), Memory>
         ensures names { OnOk result (book_of self.new
             ≡ spec.head_names (texts seen.old) (term_of node.now) (book_of self.old)) }
         ensures fields { OnOk result (texts seen.new ≡ spec.with_head (texts seen.old) (term_of node.now)) }

@@ -89,9 +89,12 @@ impl<'a> Walker<'a> {
         ensures { OnOk result (book_of self.new ≡ spec.proof_names (proof_of proof.now) (book_of self.old)) }
     {
         match proof {
-            Proof::By { place: _, only: _, facts, defs } => {
-                self.facts(alloc, facts.as_slice(), defs.as_slice())
-            }
+            Proof::By {
+                place: _,
+                only: _,
+                facts,
+                defs,
+            } => { self.facts(alloc, facts.as_slice(), defs.as_slice()) }
             Proof::Steps(steps) => {
                 let mark = self.mark();
                 self.steps(alloc, steps.as_slice())?;

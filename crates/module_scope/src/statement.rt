@@ -225,7 +225,12 @@ impl<'a> Walker<'a> {
     }
 
     /// The facts and the names after DEF of BY, USE or HIDE.
-    pub fn facts(&mut self, alloc: Global, facts: &'a [Fact], decls: &'a [Decl]) -> Result<(), Memory>
+    pub fn facts(
+        &mut self,
+        alloc: Global,
+        facts: &'a [Fact],
+        decls: &'a [Decl],
+    ) -> Result<(), Memory>
         ensures { OnOk result (book_of self.new
             ≡ spec.facts (map fact_of facts.now) decls.now (book_of self.old)) }
     {

@@ -13,7 +13,13 @@ use tla_ast::{Decl, Kind, Node, Place, Proof, Statement, Unit, UnitKind};
 
 impl<'a> Walker<'a> {
     /// Declarations of names that may have parameters.
-    fn declare_all(&mut self, alloc: Global, sort: EntrySort, level: u64, decls: &'a [Decl]) -> Result<(), Memory>
+    fn declare_all(
+        &mut self,
+        alloc: Global,
+        sort: EntrySort,
+        level: u64,
+        decls: &'a [Decl],
+    ) -> Result<(), Memory>
         ensures { OnOk result (book_of self.new
             ≡ spec.each (spec.declare sort level) decls.now (book_of self.old)) }
     {
@@ -34,7 +40,12 @@ impl<'a> Walker<'a> {
     }
 
     /// The name of a fact from then on.
-    fn fact_name(&mut self, alloc: Global, sort: EntrySort, name: &'a Option<Decl>) -> Result<(), Memory>
+    fn fact_name(
+        &mut self,
+        alloc: Global,
+        sort: EntrySort,
+        name: &'a Option<Decl>,
+    ) -> Result<(), Memory>
         ensures { OnOk result (book_of self.new ≡ spec.fact_name sort name.now (book_of self.old)) }
     {
         match name {
@@ -55,7 +66,13 @@ impl<'a> Walker<'a> {
     }
 
     /// An ASSUME unit.
-    fn assumption(&mut self, alloc: Global, place: Place, name: &'a Option<Decl>, node: &'a Node) -> Result<(), Memory>
+    fn assumption(
+        &mut self,
+        alloc: Global,
+        place: Place,
+        name: &'a Option<Decl>,
+        node: &'a Node,
+    ) -> Result<(), Memory>
         ensures { OnOk result (book_of self.new ≡ spec.assumption place name.now (term_of node.now) (book_of self.old)) }
     {
         self.fresh_name(alloc, name)?;
@@ -88,11 +105,25 @@ impl<'a> Walker<'a> {
         ensures { OnOk result (book_of self.new ≡ spec.unit (unit_of unit.now) (book_of self.old)) }
     {
         match &unit.kind {
-            UnitKind::Constants(decls) => self.declare_all(alloc, EntrySort::Constant, 0, decls.as_slice()),
-            UnitKind::Variables(decls) => self.declare_all(alloc, EntrySort::State, 1, decls.as_slice()),
+            UnitKind::Constants(decls) => self.declare_all(
+                alloc,
+                EntrySort::Constant,
+                0,
+                decls.as_slice(),
+            ),
+            UnitKind::Variables(decls) => self.declare_all(
+                alloc,
+                EntrySort::State,
+                1,
+                decls.as_slice(),
+            ),
             UnitKind::Assume { name, body } => self.assumption(alloc, unit.place, name, body),
             UnitKind::Define(def) => self.define_one(alloc, def),
-            UnitKind::Theorem { name, statement, proof } => self.theorem(alloc, name, statement, proof),
+            UnitKind::Theorem {
+                name,
+                statement,
+                proof,
+            } => self.theorem(alloc, name, statement, proof),
         }
     }
 

@@ -23,7 +23,10 @@ const SIGNS: [&[u8]; 8] = [b"+", b"-", b"*", b"<", b">", b"<=", b">=", b".."];
 fn is_fact(sort: EntrySort) -> bool
     ensures { result ≡ spec.is_fact sort }
 {
-    matches!(sort, EntrySort::Assume | EntrySort::Theorem | EntrySort::Pragma)
+    matches!(
+        sort,
+        EntrySort::Assume | EntrySort::Theorem | EntrySort::Pragma
+    )
 }
 
 /// Whether a name of this sort is a library's.
@@ -147,15 +150,34 @@ impl<'a> Walker<'a> {
     }
 
     /// A declaration of a name that may have parameters.
-    pub fn declare(&mut self, alloc: Global, sort: EntrySort, level: u64, decl: &'a Decl) -> Result<(), Memory>
+    pub fn declare(
+        &mut self,
+        alloc: Global,
+        sort: EntrySort,
+        level: u64,
+        decl: &'a Decl,
+    ) -> Result<(), Memory>
         ensures { OnOk result (book_of self.new ≡ spec.declare sort level decl.now (book_of self.old)) }
     {
         self.fresh(alloc, decl.name.bytes(), decl.place)?;
-        self.enter(alloc, sort, level, decl.arity, decl.name.bytes(), decl.place)
+        self.enter(
+            alloc,
+            sort,
+            level,
+            decl.arity,
+            decl.name.bytes(),
+            decl.place,
+        )
     }
 
     /// A declaration of a name without parameters.
-    pub fn declare_name(&mut self, alloc: Global, sort: EntrySort, level: u64, decl: &'a Decl) -> Result<(), Memory>
+    pub fn declare_name(
+        &mut self,
+        alloc: Global,
+        sort: EntrySort,
+        level: u64,
+        decl: &'a Decl,
+    ) -> Result<(), Memory>
         ensures { OnOk result (book_of self.new
             ≡ spec.declare_name sort level decl.now (book_of self.old)) }
     {
@@ -180,7 +202,9 @@ impl<'a> Walker<'a> {
         let params = def.params.as_slice();
         let body = def.body.get();
         let primed = primed_flags(alloc, &self.symbols, self.entries.as_slice(), params, body)?;
-        let level = self.levels.define(alloc, number, params, body, &self.symbols)?;
+        let level = self
+            .levels
+            .define(alloc, number, params, body, &self.symbols)?;
         let text = Text::of(alloc, def.name.bytes())?;
         self.entries.push(Entry {
             name: text,
@@ -221,10 +245,19 @@ impl<'a> Walker<'a> {
     }
 
     /// A name with so many arguments, where it may be a value of the language.
-    pub fn name(&mut self, alloc: Global, name: &[u8], count: u64, place: Place) -> Result<(), Memory>
+    pub fn name(
+        &mut self,
+        alloc: Global,
+        name: &[u8],
+        count: u64,
+        place: Place,
+    ) -> Result<(), Memory>
         ensures { OnOk result (book_of self.new ≡ spec.named name.now count place (book_of self.old)) }
     {
-        if name == b"TRUE".as_slice() || name == b"FALSE".as_slice() || name == b"BOOLEAN".as_slice() {
+        if name == b"TRUE".as_slice()
+            || name == b"FALSE".as_slice()
+            || name == b"BOOLEAN".as_slice()
+        {
             return Ok(());
         }
         if name == b"STRING".as_slice() {
@@ -234,7 +267,13 @@ impl<'a> Walker<'a> {
     }
 
     /// The name of a library's operator, as it is shown.
-    fn operator(&mut self, alloc: Global, name: &[u8], shown: &[u8], place: Place) -> Result<(), Memory>
+    fn operator(
+        &mut self,
+        alloc: Global,
+        name: &[u8],
+        shown: &[u8],
+        place: Place,
+    ) -> Result<(), Memory>
         ensures { OnOk result (book_of self.new ≡ spec.operator name.now shown.now place (book_of self.old)) }
     {
         match self.find(name) {

@@ -75,7 +75,7 @@ step-returns-in_ok-proof-in-Suffices t c =
     let more = reverse (map seen c.in_ok-names-in-Suffices.names.items) in
     because _ _ _ _ (ap (λ (k : StepKind). move_names (move_of k) sub b) c.in-Suffices.is
     ∙ sym (unseen-is (stated (statement_of c.in-Suffices.statement)) sub b (book_of c.statement-in-Suffices.new.self) (book_of c.withdraw.new.self) d (with_more more d) c.mark-mark-in-Suffices.result more
-        c.mark-mark-in-Suffices.ensures c.in_ok-statement-in-Suffices.ensures c.in_ok-names-in-Suffices.ensures.left c.in_ok-names-in-Suffices.ensures.taken c.in_ok-proof-in-Suffices.ensures refl)) c.restore.ensures
+    c.mark-mark-in-Suffices.ensures c.in_ok-statement-in-Suffices.ensures c.in_ok-names-in-Suffices.ensures.left c.in_ok-names-in-Suffices.ensures.taken c.in_ok-proof-in-Suffices.ensures refl)) c.restore.ensures
 
 pub step-returns-in_ok-proof-in-Pick : goal.step-returns-in_ok-proof-in-Pick
 step-returns-in_ok-proof-in-Pick t c =
@@ -86,8 +86,8 @@ step-returns-in_ok-proof-in-Pick t c =
     let t = term_of c.in-Pick.node in
     because _ _ _ _ (ap (λ (k : StepKind). move_names (move_of k) sub b) c.in-Pick.is
     ∙ sym (unseen-is (chosen (each_group c.in-Pick.groups) >> alone t) sub b (book_of c.alone.new.self) (book_of c.withdraw-in-Pick.new.self) d (with_more more d) c.mark-mark-in-Pick.result more
-        c.mark-mark-in-Pick.ensures (c.in_ok-alone-in-Pick.ensures ∙ ap (alone t) (c.in_ok-choose-in-Pick.ensures ∙ ap (λ gs. chosen (each_group gs) b) c.as_slice.ensures))
-        c.in_ok-names-in-Pick.ensures.left c.in_ok-names-in-Pick.ensures.taken c.in_ok-proof-in-Pick.ensures refl)) c.restore-in-Pick.ensures
+    c.mark-mark-in-Pick.ensures (c.in_ok-alone-in-Pick.ensures ∙ ap (alone t) (c.in_ok-choose-in-Pick.ensures ∙ ap (λ gs. chosen (each_group gs) b) c.as_slice.ensures))
+    c.in_ok-names-in-Pick.ensures.left c.in_ok-names-in-Pick.ensures.taken c.in_ok-proof-in-Pick.ensures refl)) c.restore-in-Pick.ensures
 
 pub steps-loop-step-preserved : goal.steps-loop-step-preserved
 steps-loop-step-preserved t c =

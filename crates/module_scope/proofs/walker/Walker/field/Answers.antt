@@ -25,7 +25,7 @@ returns-clause-names c =
     c.in_ok-refuse.ensures
     ∙ ap (λ w. refused (kind.Redeclared w) (out-Node c.args.node.now).place (book_of c.args.self.now)) (c.in_ok-name.ensures ∙ c.bytes-2.ensures ∙ sym c.bytes.ensures)
     ∙ field-again c.args.node.now c.bytes.result c.args.seen.now.keys c.insert.new.self.keys (book_of c.args.self.now) (c.in-Name.is ∙ ap form.Name (sym c.bytes.ensures)) c.in_ok-insert.field-0
-        c.in_ok-insert.ensures.added c.if-branch.false
+    c.in_ok-insert.ensures.added c.if-branch.false
 
 pub returns-clause-fields : goal.returns-clause-fields
 returns-clause-fields c =
