@@ -1,8 +1,8 @@
 -- The facts that expressions name.
-use Rattle.std.proofs.Common.{◌≡◌, ◌<◌, ◌≤◌, List, [], ◌∷◌, map, length, Option, Some, None, refl, sym, ap, subst, ◌∙◌, arith}
+use Rattle.std.proofs.Common.{◌≡◌, ◌<◌, ◌≤◌, List, [], ◌∷◌, map, length, None, refl, sym, ap, subst, ◌∙◌, arith}
 use Rattle.tla_ast.specs.declared.place.Place.{Place}
 use Rattle.tla_ast.specs.declared.tree.Node.{Node, out-Node}
-use Rattle.tla_ast.specs.declared.tree.Form.{Form, out-Form, roll-Form, roll-out-Form}
+use Rattle.tla_ast.specs.declared.tree.Form.{out-Form, roll-Form, roll-out-Form}
 use Rattle.tla_ast.specs.declared.tree.Form.TheFolds.{fold-roll-Form}
 use Rattle.tla_ast.specs.declared.tree.Form.TheOpen.{Form-F}
 use Rattle.tla_ast.specs.declared.tree.Form.TheVariants as form

@@ -11,7 +11,7 @@ use Rattle.expression_level.specs.Levels.{Levels, bound, definition_level}
 use Rattle.expression_level.specs.Primed.{primed_parameters}
 use Rattle.expression_level.specs.Store.{flags_of}
 use Rattle.module_scope.specs.Scope.{Scope}
-use Rattle.module_scope.specs.Names.{Book, defined}
+use Rattle.module_scope.specs.Names.{defined}
 use Rattle.module_scope.specs.Names.Book.{book}
 
 pub defined-is : (ss ss2 : Scope) (es es2 : List Entry) (ls ls2 : Levels) (ys ys2 : List (Place × ℕ)) (fs : List (Place × Kind)) (w v : Text) (ds : List Decl) (t : Term) (p : Place) (n a l : ℕ) (flags : List Bool)

@@ -7,7 +7,7 @@ use Rattle.indexmap.specs.IndexSet.{insert_key}
 use Rattle.tla_ast.specs.declared.place.Place.{Place}
 use Rattle.tla_ast.specs.declared.fault.Kind.TheVariants as kind
 use Rattle.tla_ast.specs.declared.tree.Node.{Node, out-Node}
-use Rattle.tla_ast.specs.declared.tree.Form.{Form, out-Form, roll-Form, roll-out-Form}
+use Rattle.tla_ast.specs.declared.tree.Form.{out-Form, roll-Form, roll-out-Form}
 use Rattle.tla_ast.specs.declared.tree.Form.TheFolds.{fold-roll-Form}
 use Rattle.tla_ast.specs.declared.tree.Form.TheOpen.{Form-F}
 use Rattle.tla_ast.specs.declared.tree.Form.TheVariants as form

@@ -1,13 +1,10 @@
 -- One step of a loop, and what stands round it.
-use Rattle.std.proofs.Common.{◌≡◌, ◌<◌, ◌≤◌, ◌+◌, ℕ, zero, suc, List, [], ◌∷◌, length, map, drop, fold, slice_index_or, refl, sym, ap, subst, ◌∙◌, arith}
-use Rattle.tla_ast.specs.declared.tree.Decl.{Decl}
-use Rattle.tla_ast.specs.declared.tree.Node.{Node, out-Node}
+use Rattle.std.proofs.Common.{◌≡◌, ◌<◌, ◌≤◌, ℕ, zero, suc, List, [], ◌∷◌, length, map, drop, fold, slice_index_or, refl, sym, ap, subst, ◌∙◌, arith}
+use Rattle.tla_ast.specs.declared.tree.Node.{Node}
 use Rattle.tla_ast.specs.declared.tree.Path.{Path, out-Path}
-use Rattle.tla_ast.specs.declared.tree.Def.{Def, out-Def}
 use Rattle.plain_syntax.specs.Plain.{Text, Term, Keys}
 use Rattle.plain_syntax.specs.Syntax.{term_of, terms_of, keys_of, updates_of}
-use Rattle.symbol_table.specs.declared.entry.EntrySort.TheVariants as sorts
-use Rattle.module_scope.specs.Names.{Book, Walk, each, inside, left, scope_of, ◌>>◌, declare_name, fresh, names, update_names, field_names, with_head, head_names}
+use Rattle.module_scope.specs.Names.{Book, Walk, inside, left, scope_of, names, update_names, field_names, with_head, head_names}
 use Rattle.module_scope.specs.Visits.{key_step, except_names}
 use Rattle.module_scope.proofs.Visits.{keys-all}
 

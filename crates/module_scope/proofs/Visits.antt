@@ -1,5 +1,5 @@
 -- The walk of the code over an expression is the walk of the definition.
-use Rattle.std.proofs.Common.{◌≡◌, ◌≤◌, ◌++◌, suc, OnOk, Result, List, [], ◌∷◌, fold, map, length, Option, Some, None, refl, sym, ap, subst, ◌∙◌, arith, Bool}
+use Rattle.std.proofs.Common.{◌≡◌, ◌≤◌, suc, OnOk, Result, List, [], ◌∷◌, fold, map, length, Option, Some, None, refl, sym, ap, subst, ◌∙◌, arith, Bool}
 use Rattle.std.proofs.lemmas.Grind.{fold-append}
 use Rattle.tla_ast.specs.declared.place.Place.{Place}
 use Rattle.tla_ast.specs.declared.tree.Decl.{Decl}
@@ -12,19 +12,19 @@ use Rattle.tla_ast.specs.declared.tree.Form.TheVariants.{rolls-Prefix, rolls-Inf
 use Rattle.tla_ast.specs.declared.tree.Key.{Key, out-Key, roll-Key, roll-out-Key}
 use Rattle.tla_ast.specs.declared.tree.Path.{Path, out-Path}
 use Rattle.tla_ast.specs.declared.tree.Group.{Group, out-Group}
-use Rattle.tla_ast.specs.declared.tree.Def.{Def, out-Def}
+use Rattle.tla_ast.specs.declared.tree.Def.{Def}
 use Rattle.plain_syntax.specs.Plain.{Text, Term, Terms, Keys, Groups, Defs}
 use Rattle.plain_syntax.specs.Plain.Term.{term}
 use Rattle.plain_syntax.specs.Plain.Terms.{none, part}
 use Rattle.plain_syntax.specs.Plain.{Shape as s}
 use Rattle.plain_syntax.specs.Plain.Groups.{end_groups}
 use Rattle.plain_syntax.specs.Plain.Keys.{end_keys}
-use Rattle.plain_syntax.specs.Syntax.{Held, shape_of, key_of, def_of, group_of, node_of, path_of, term_of, terms_of, key_keys, keys_of, each_key, groups_of, each_group, defs_of, each_def, with_domain, set_of, except_of, updates_of}
+use Rattle.plain_syntax.specs.Syntax.{Held, shape_of, key_of, def_of, group_of, node_of, path_of, term_of, terms_of, key_keys, keys_of, each_key, groups_of, each_group, defs_of, each_def, with_domain, set_of, except_of}
 use Rattle.plain_syntax.specs.Order.{order, orders}
 use Rattle.plain_syntax.proofs.Forms.{held, by-form, is-prefixed, is-infixed, is-prime, is-index, is-field, is-name, is-call, is-filter, is-image, is-function, is-fields, is-field-sets, is-except, is-quantifier, is-choice, is-local, is-path, is-group, is-def}
 use Rattle.symbol_table.specs.declared.entry.EntrySort.{EntrySort}
 use Rattle.symbol_table.specs.declared.entry.EntrySort.TheVariants as sorts
-use Rattle.module_scope.specs.Names.{Book, scope_of, left, names, all_names, bound_names, set_names, bind_names, definitions, key_names, update_names, field_names, with_head, head_names, named, count, prefix_name, infix_name, each, declare_name, judged_bodies, group_sets, domain}
+use Rattle.module_scope.specs.Names.{Book, scope_of, left, names, all_names, bound_names, set_names, bind_names, definitions, key_names, field_names, with_head, head_names, named, count, prefix_name, infix_name, each, declare_name, judged_bodies, group_sets, domain}
 use Rattle.module_scope.specs.Known.{parts_in}
 use Rattle.module_scope.specs.Visits.{visited, bind_group, domain_names, set_group, define_step, key_step, except_names, body_step, choice_set}
 

@@ -7,7 +7,7 @@ use Rattle.tla_ast.specs.declared.fault.Kind.TheVariants as kind
 use Rattle.tla_ast.specs.declared.tree.Decl.{Decl}
 use Rattle.tla_ast.specs.declared.unit.Sort.{Sort}
 use Rattle.tla_ast.specs.declared.unit.Sort.TheVariants as sort
-use Rattle.plain_syntax.specs.Plain.{Text, Term, Terms, Shape, Updates, Keys, Groups, Defs, Item, Statement, Fact, Move, Proof, Steps, UnitKind, Unit}
+use Rattle.plain_syntax.specs.Plain.{Text, Term, Terms, Updates, Keys, Groups, Defs, Item, Statement, Fact, Move, Proof, Steps, UnitKind, Unit}
 use Rattle.plain_syntax.specs.Plain.Term.{term}
 use Rattle.plain_syntax.specs.Plain.Terms.{none, part}
 use Rattle.plain_syntax.specs.Plain.Shape.{name, call, prefixed, infixed, filter, image, function, fields, field_sets, except, quantifier, choice, local}

@@ -71,7 +71,8 @@ impl<'a> Scope<'a> {
         alloc: Global,
         new: &[(&'a [u8], u64)],
     ) -> Result<Vec<(&'a [u8], u64)>, Memory>
-        ensures { IfOk result (λ names. map seen names.items ≡ spec.unknown self.now (map seen new.now)) }
+        ensures { IfOk result (λ names. map seen names.items
+            ≡ spec.unknown self.now (map seen new.now)) }
     {
         let mut names = Vec::new(alloc);
         for (name, number) in new {
@@ -95,7 +96,8 @@ impl<'a> Scope<'a> {
 
 /// The lesser of a name and the least so far, if there is one.
 fn lesser<'a>(name: &'a [u8], least: Option<&'a [u8]>) -> Option<&'a [u8]>
-    ensures { option_map (λ w. w.now) result ≡ spec.lesser name.now (option_map (λ w. w.now) least.entry) }
+    ensures { option_map (λ w. w.now) result
+        ≡ spec.lesser name.now (option_map (λ w. w.now) least.entry) }
 {
     match least {
         None => Some(name),
@@ -112,7 +114,8 @@ fn lesser<'a>(name: &'a [u8], least: Option<&'a [u8]>) -> Option<&'a [u8]>
 impl<'a> Walker<'a> {
     /// Brings names into the scope, at the place where their module is extended.
     fn bring(&mut self, alloc: Global, new: &[(&'a [u8], u64)], place: Place) -> Result<(), Memory>
-        ensures { OnOk result (book_of self.new ≡ spec.bring (map seen new.now) place (book_of self.old)) }
+        ensures { OnOk result (book_of self.new
+            ≡ spec.bring (map seen new.now) place (book_of self.old)) }
     {
         let clash = self.scope.first_clash(new);
         let unknown = self.scope.unknown(alloc, new)?;

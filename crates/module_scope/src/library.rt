@@ -73,7 +73,8 @@ fn given<'a>(
     owner: &[u8],
     table: &'a [(&'a [u8], EntrySort, u64)],
 ) -> Result<Vec<(&'a [u8], u64)>, Memory>
-    ensures { IfOk result (λ names. map seen names.items ≡ spec.given 0 owner.now (map row_entry table.now)) }
+    ensures { IfOk result (λ names. map seen names.items
+        ≡ spec.given 0 owner.now (map row_entry table.now)) }
 {
     let mut names = Vec::new(alloc);
     for (at, row) in table.iter().enumerate() {

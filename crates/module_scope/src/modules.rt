@@ -84,7 +84,8 @@ impl<'a> Walker<'a> {
         module: &'a Module,
     ) -> Result<(), Memory>
         ensures { OnOk result (book_of self.new
-            ≡ spec.module_names (exports_of exports.now) (module_of «module».now) (book_of self.old)) }
+            ≡ spec.module_names (exports_of exports.now) (module_of «module».now)
+            (book_of self.old)) }
     {
         self.begin(alloc);
         self.extend_all(alloc, exports, module.extends.as_slice())?;
@@ -98,10 +99,12 @@ impl<'a> Walker<'a> {
         exports: &[Export<'a>],
         module: &'a Module,
     ) -> Result<(Export<'a>, Symbols), ScopeFault>
-        ensures finished { IfOk result (λ p. finished.Finished (exports_of exports.now) (module_of «module».now)
+        ensures finished { IfOk result (λ p. finished.Finished (exports_of exports.now)
+            (module_of «module».now)
             (book_of self.old) (book_of self.new) (export_of p.0) p.1) }
         ensures refused { IfErr result (λ e.
-            finished.Refused (exports_of exports.now) (module_of «module».now) (book_of self.old) e) }
+            finished.Refused (exports_of exports.now) (module_of «module».now)
+            (book_of self.old) e) }
     {
         self.walk(alloc, exports, module)?;
         let faults = mem::replace(&mut self.faults, Vec::new(alloc));

@@ -41,7 +41,8 @@ impl<'a> Walker<'a> {
         sort: EntrySort,
         group: &'a Group,
     ) -> Result<(), Memory>
-        ensures { OnOk result (book_of self.new ≡ visit.bind_group sort (book_of self.old) group.now) }
+        ensures { OnOk result (book_of self.new
+            ≡ visit.bind_group sort (book_of self.old) group.now) }
     {
         self.bind_all(alloc, sort, group.names.as_slice())
     }
@@ -71,7 +72,8 @@ impl<'a> Walker<'a> {
     ) -> Result<(), Memory>
         ensures names { OnOk result (book_of self.new
             ≡ spec.head_names (texts seen.old) (term_of node.now) (book_of self.old)) }
-        ensures fields { OnOk result (texts seen.new ≡ spec.with_head (texts seen.old) (term_of node.now)) }
+        ensures fields { OnOk result (texts seen.new
+            ≡ spec.with_head (texts seen.old) (term_of node.now)) }
     {
         let Form::Name(name) = &node.form else {
             return Ok(());
@@ -99,7 +101,8 @@ impl<'a> Walker<'a> {
     /// A name with its arguments.
     #[cycle(walk)]
     fn application(&mut self, alloc: Global, name: &[u8], node: &'a Node) -> Result<(), Memory>
-        ensures { OnOk result (book_of self.new ≡ spec.named name.now (length (out-Node node.now).parts)
+        ensures { OnOk result (book_of self.new
+            ≡ spec.named name.now (length (out-Node node.now).parts)
             (out-Node node.now).place (spec.all_names (parts_in node.now) (book_of self.old))) }
     {
         self.all(alloc, node.parts.as_slice())?;
@@ -110,7 +113,8 @@ impl<'a> Walker<'a> {
     #[cycle(walk)]
     fn binder(&mut self, alloc: Global, name: &'a [u8], node: &'a Node) -> Result<(), Memory>
         ensures { OnOk result (book_of self.new
-            ≡ spec.bound_names name.now (out-Node node.now).place (parts_in node.now) (book_of self.old)) }
+            ≡ spec.bound_names name.now (out-Node node.now).place (parts_in node.now)
+            (book_of self.old)) }
     {
         let Some((set, rest)) = node.parts.as_slice().split_first() else {
             return Ok(());
@@ -137,7 +141,8 @@ impl<'a> Walker<'a> {
     /// The sets of several groups.
     #[cycle(walk)]
     fn domains(&mut self, alloc: Global, groups: &'a [Group]) -> Result<(), Memory>
-        ensures { OnOk result (book_of self.new ≡ fold visit.set_group (book_of self.old) groups.now) }
+        ensures { OnOk result (book_of self.new
+            ≡ fold visit.set_group (book_of self.old) groups.now) }
     {
         for group in groups {
             self.domain(alloc, group)?;
@@ -172,7 +177,8 @@ impl<'a> Walker<'a> {
     /// Several definitions, each seen by those after it.
     #[cycle(walk)]
     pub fn definitions(&mut self, alloc: Global, defs: &'a [Def]) -> Result<(), Memory>
-        ensures { OnOk result (book_of self.new ≡ fold visit.define_step (book_of self.old) defs.now) }
+        ensures { OnOk result (book_of self.new
+            ≡ fold visit.define_step (book_of self.old) defs.now) }
     {
         for def in defs {
             self.definition(alloc, def)?;
@@ -194,7 +200,8 @@ impl<'a> Walker<'a> {
     /// The keys of an update.
     #[cycle(walk)]
     fn keys(&mut self, alloc: Global, path: &'a Path) -> Result<(), Memory>
-        ensures { OnOk result (book_of self.new ≡ fold visit.key_step (book_of self.old) (out-Path path.now).keys) }
+        ensures { OnOk result (book_of self.new
+            ≡ fold visit.key_step (book_of self.old) (out-Path path.now).keys) }
     {
         for key in path.keys.as_slice() {
             self.key(alloc, key)?;
@@ -229,7 +236,8 @@ impl<'a> Walker<'a> {
     /// The fields of a record and their expressions.
     #[cycle(walk)]
     fn fields(&mut self, alloc: Global, node: &'a Node) -> Result<(), Memory>
-        ensures { OnOk result (book_of self.new ≡ spec.field_names [] (parts_in node.now) (book_of self.old)) }
+        ensures { OnOk result (book_of self.new
+            ≡ spec.field_names [] (parts_in node.now) (book_of self.old)) }
     {
         let parts = node.parts.as_slice();
         let mut seen = IndexSet::new(alloc);
@@ -248,7 +256,8 @@ impl<'a> Walker<'a> {
     /// An expression, where the operands of an operator are walked already.
     #[cycle(walk)]
     fn visit(&mut self, alloc: Global, node: &'a Node) -> Result<(), Memory>
-        ensures { OnOk result (book_of self.new ≡ visit.visited (book_of self.old) (term_of node.now)) }
+        ensures { OnOk result (book_of self.new
+            ≡ visit.visited (book_of self.old) (term_of node.now)) }
     {
         match &node.form {
             Form::Prefix(sign) => self.prefix(alloc, sign.bytes(), node.place),
@@ -288,7 +297,8 @@ impl<'a> Walker<'a> {
     /// The names of an expression. Operators are walked by a loop, since they nest as deep as a text is long.
     #[cycle(walk)]
     pub fn expression(&mut self, alloc: Global, node: &'a Node) -> Result<(), Memory>
-        ensures { OnOk result (book_of self.new ≡ spec.names (term_of node.now) (book_of self.old)) }
+        ensures { OnOk result (book_of self.new
+            ≡ spec.names (term_of node.now) (book_of self.old)) }
     {
         let nodes = operator_order(alloc, node)?;
         for node in nodes.as_slice() {

@@ -75,7 +75,8 @@ impl<'a> Walker<'a> {
     /// Steps, one after another.
     #[cycle(proofs)]
     fn steps(&mut self, alloc: Global, steps: &'a [Step]) -> Result<(), Memory>
-        ensures { OnOk result (book_of self.new ≡ fold visit.step_names (book_of self.old) steps.now) }
+        ensures { OnOk result (book_of self.new
+            ≡ fold visit.step_names (book_of self.old) steps.now) }
     {
         for step in steps {
             self.step(alloc, step)?;
@@ -86,7 +87,8 @@ impl<'a> Walker<'a> {
     /// A proof. What its steps declare is not seen after it.
     #[cycle(proofs)]
     pub fn proof(&mut self, alloc: Global, proof: &'a Proof) -> Result<(), Memory>
-        ensures { OnOk result (book_of self.new ≡ spec.proof_names (proof_of proof.now) (book_of self.old)) }
+        ensures { OnOk result (book_of self.new
+            ≡ spec.proof_names (proof_of proof.now) (book_of self.old)) }
     {
         match proof {
             Proof::By {

@@ -111,7 +111,8 @@ impl<'a> Scope<'a> {
     /// Takes all names out of the scope but the oldest, so many, and gives them, the newest first.
     pub fn withdraw(&mut self, alloc: Global, len: usize) -> Result<Vec<(&'a [u8], u64)>, Memory>
         ensures left { OnOk result (self.new ≡ take len self.old) }
-        ensures taken { IfOk result (λ taken. reverse (map spec.seen taken.items) ≡ drop len self.old) }
+        ensures taken { IfOk result (λ taken. reverse (map spec.seen taken.items)
+            ≡ drop len self.old) }
     {
         let mut taken = Vec::new(alloc);
         while self.names.len() > len {

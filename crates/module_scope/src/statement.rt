@@ -51,7 +51,8 @@ impl<'a> Walker<'a> {
     /// The faults of levels in an expression whose names are walked.
     #[tactic(auto, unfolding(crate::specs::Names::judged))]
     pub fn judge(&mut self, alloc: Global, node: &Node) -> Result<(), Memory>
-        ensures { OnOk result (book_of self.new ≡ spec.judged (term_of node.now) (book_of self.old)) }
+        ensures { OnOk result (book_of self.new
+            ≡ spec.judged (term_of node.now) (book_of self.old)) }
     {
         let judged = self.levels.judge(alloc, &self.symbols, node)?;
         self.refuse_levels(judged.faults.as_slice())
@@ -59,7 +60,8 @@ impl<'a> Walker<'a> {
 
     /// An expression by itself.
     pub fn alone(&mut self, alloc: Global, node: &'a Node) -> Result<(), Memory>
-        ensures { OnOk result (book_of self.new ≡ spec.alone (term_of node.now) (book_of self.old)) }
+        ensures { OnOk result (book_of self.new
+            ≡ spec.alone (term_of node.now) (book_of self.old)) }
     {
         self.expression(alloc, node)?;
         self.judge(alloc, node)
@@ -78,7 +80,8 @@ impl<'a> Walker<'a> {
 
     /// The faults of levels in the bodies of definitions.
     fn judge_bodies(&mut self, alloc: Global, defs: &'a [Def]) -> Result<(), Memory>
-        ensures { OnOk result (book_of self.new ≡ fold visit.body_step (book_of self.old) defs.now) }
+        ensures { OnOk result (book_of self.new
+            ≡ fold visit.body_step (book_of self.old) defs.now) }
     {
         for def in defs {
             self.judge(alloc, def.body.get())?;
@@ -88,7 +91,8 @@ impl<'a> Walker<'a> {
 
     /// The definitions of a proof.
     pub fn define_all(&mut self, alloc: Global, defs: &'a [Def]) -> Result<(), Memory>
-        ensures { OnOk result (book_of self.new ≡ spec.define (each_def defs.now) (book_of self.old)) }
+        ensures { OnOk result (book_of self.new
+            ≡ spec.define (each_def defs.now) (book_of self.old)) }
     {
         self.definitions(alloc, defs)?;
         self.judge_bodies(alloc, defs)
@@ -105,7 +109,8 @@ impl<'a> Walker<'a> {
 
     /// The set of a name, where it has one.
     fn set(&mut self, alloc: Global, domain: &'a Option<Boxed<Node>>) -> Result<(), Memory>
-        ensures { OnOk result (book_of self.new ≡ spec.domain (set_of domain.now) (book_of self.old)) }
+        ensures { OnOk result (book_of self.new
+            ≡ spec.domain (set_of domain.now) (book_of self.old)) }
     {
         match domain {
             None => Ok(()),
@@ -115,7 +120,8 @@ impl<'a> Walker<'a> {
 
     /// An item after ASSUME.
     fn item(&mut self, alloc: Global, item: &'a Item) -> Result<(), Memory>
-        ensures { OnOk result (book_of self.new ≡ spec.item_names (item_of item.now) (book_of self.old)) }
+        ensures { OnOk result (book_of self.new
+            ≡ spec.item_names (item_of item.now) (book_of self.old)) }
     {
         match item {
             Item::New { sort, decl, domain } => {
@@ -139,7 +145,8 @@ impl<'a> Walker<'a> {
 
     /// A statement.
     pub fn statement(&mut self, alloc: Global, statement: &'a Statement) -> Result<(), Memory>
-        ensures { OnOk result (book_of self.new ≡ spec.stated (statement_of statement.now) (book_of self.old)) }
+        ensures { OnOk result (book_of self.new
+            ≡ spec.stated (statement_of statement.now) (book_of self.old)) }
     {
         self.items(alloc, statement.items.as_slice())?;
         self.alone(alloc, &statement.goal)
@@ -154,7 +161,8 @@ impl<'a> Walker<'a> {
 
     /// The sets of the names that TAKE or PICK chooses.
     fn group_sets(&mut self, alloc: Global, groups: &'a [Group]) -> Result<(), Memory>
-        ensures { OnOk result (book_of self.new ≡ fold visit.choice_set (book_of self.old) groups.now) }
+        ensures { OnOk result (book_of self.new
+            ≡ fold visit.choice_set (book_of self.old) groups.now) }
     {
         for group in groups {
             self.group_set(alloc, group)?;
@@ -164,7 +172,8 @@ impl<'a> Walker<'a> {
 
     /// The names that TAKE or PICK chooses, and their sets.
     pub fn choose(&mut self, alloc: Global, groups: &'a [Group]) -> Result<(), Memory>
-        ensures { OnOk result (book_of self.new ≡ spec.chosen (each_group groups.now) (book_of self.old)) }
+        ensures { OnOk result (book_of self.new
+            ≡ spec.chosen (each_group groups.now) (book_of self.old)) }
     {
         self.group_sets(alloc, groups)?;
         self.bind_groups(alloc, EntrySort::Constant, groups)
@@ -185,7 +194,8 @@ impl<'a> Walker<'a> {
 
     /// What a fact cites or states.
     fn cite(&mut self, alloc: Global, node: &'a Node) -> Result<(), Memory>
-        ensures { OnOk result (book_of self.new ≡ spec.cited (term_of node.now) (book_of self.old)) }
+        ensures { OnOk result (book_of self.new
+            ≡ spec.cited (term_of node.now) (book_of self.old)) }
     {
         match self.named_fact(node) {
             Some(number) => self.note(node.place, number),
@@ -195,7 +205,8 @@ impl<'a> Walker<'a> {
 
     /// A fact of BY, USE or HIDE.
     fn cite_fact(&mut self, alloc: Global, fact: &'a Fact) -> Result<(), Memory>
-        ensures { OnOk result (book_of self.new ≡ spec.fact_names (fact_of fact.now) (book_of self.old)) }
+        ensures { OnOk result (book_of self.new
+            ≡ spec.fact_names (fact_of fact.now) (book_of self.old)) }
     {
         match fact {
             Fact::StepName { .. } => Ok(()),
@@ -216,7 +227,8 @@ impl<'a> Walker<'a> {
 
     /// Names after DEF.
     fn unfold_all(&mut self, alloc: Global, decls: &'a [Decl]) -> Result<(), Memory>
-        ensures { OnOk result (book_of self.new ≡ spec.each spec.unfolded decls.now (book_of self.old)) }
+        ensures { OnOk result (book_of self.new
+            ≡ spec.each spec.unfolded decls.now (book_of self.old)) }
     {
         for decl in decls {
             self.unfold(alloc, decl)?;

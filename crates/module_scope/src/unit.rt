@@ -56,7 +56,8 @@ impl<'a> Walker<'a> {
 
     /// An assumption is on level 0.
     fn assumed(&mut self, alloc: Global, place: Place, node: &Node) -> Result<(), Memory>
-        ensures { OnOk result (book_of self.new ≡ spec.assumed place (term_of node.now) (book_of self.old)) }
+        ensures { OnOk result (book_of self.new
+            ≡ spec.assumed place (term_of node.now) (book_of self.old)) }
     {
         let judged = self.levels.judge(alloc, &self.symbols, node)?;
         if judged.level == 0 {
@@ -73,7 +74,8 @@ impl<'a> Walker<'a> {
         name: &'a Option<Decl>,
         node: &'a Node,
     ) -> Result<(), Memory>
-        ensures { OnOk result (book_of self.new ≡ spec.assumption place name.now (term_of node.now) (book_of self.old)) }
+        ensures { OnOk result (book_of self.new
+            ≡ spec.assumption place name.now (term_of node.now) (book_of self.old)) }
     {
         self.fresh_name(alloc, name)?;
         self.alone(alloc, node)?;
@@ -90,7 +92,8 @@ impl<'a> Walker<'a> {
         proof: &'a Proof,
     ) -> Result<(), Memory>
         ensures { OnOk result (book_of self.new
-            ≡ spec.theorem name.now (statement_of statement.now) (proof_of proof.now) (book_of self.old)) }
+            ≡ spec.theorem name.now (statement_of statement.now) (proof_of proof.now)
+            (book_of self.old)) }
     {
         self.fresh_name(alloc, name)?;
         let mark = self.mark();
@@ -129,7 +132,8 @@ impl<'a> Walker<'a> {
 
     /// Units, one after another.
     pub fn units(&mut self, alloc: Global, units: &'a [Unit]) -> Result<(), Memory>
-        ensures { OnOk result (book_of self.new ≡ spec.each spec.unit (map unit_of units.now) (book_of self.old)) }
+        ensures { OnOk result (book_of self.new
+            ≡ spec.each spec.unit (map unit_of units.now) (book_of self.old)) }
     {
         for unit in units {
             self.unit(alloc, unit)?;

@@ -157,7 +157,8 @@ impl<'a> Walker<'a> {
         level: u64,
         decl: &'a Decl,
     ) -> Result<(), Memory>
-        ensures { OnOk result (book_of self.new ≡ spec.declare sort level decl.now (book_of self.old)) }
+        ensures { OnOk result (book_of self.new
+            ≡ spec.declare sort level decl.now (book_of self.old)) }
     {
         self.fresh(alloc, decl.name.bytes(), decl.place)?;
         self.enter(
@@ -195,7 +196,8 @@ impl<'a> Walker<'a> {
 
     /// A definition whose parameters and body are walked, and its name from then on.
     pub fn define(&mut self, alloc: Global, def: &'a Def) -> Result<(), Memory>
-        ensures { OnOk result (book_of self.new ≡ spec.defined (out-Def def.now).name (out-Def def.now).params
+        ensures { OnOk result (book_of self.new
+            ≡ spec.defined (out-Def def.now).name (out-Def def.now).params
             (term_of (out-Def def.now).body) (out-Def def.now).place (book_of self.old)) }
     {
         let number = self.entries.len() as u64;
@@ -229,7 +231,8 @@ impl<'a> Walker<'a> {
 
     /// A name with so many arguments.
     fn apply(&mut self, alloc: Global, name: &[u8], count: u64, place: Place) -> Result<(), Memory>
-        ensures { OnOk result (book_of self.new ≡ spec.used name.now count place (book_of self.old)) }
+        ensures { OnOk result (book_of self.new
+            ≡ spec.used name.now count place (book_of self.old)) }
     {
         let Some(number) = self.find(name) else {
             return self.unknown(alloc, name, place);
@@ -252,7 +255,8 @@ impl<'a> Walker<'a> {
         count: u64,
         place: Place,
     ) -> Result<(), Memory>
-        ensures { OnOk result (book_of self.new ≡ spec.named name.now count place (book_of self.old)) }
+        ensures { OnOk result (book_of self.new
+            ≡ spec.named name.now count place (book_of self.old)) }
     {
         if name == b"TRUE".as_slice()
             || name == b"FALSE".as_slice()
@@ -274,7 +278,8 @@ impl<'a> Walker<'a> {
         shown: &[u8],
         place: Place,
     ) -> Result<(), Memory>
-        ensures { OnOk result (book_of self.new ≡ spec.operator name.now shown.now place (book_of self.old)) }
+        ensures { OnOk result (book_of self.new
+            ≡ spec.operator name.now shown.now place (book_of self.old)) }
     {
         match self.find(name) {
             Some(number) if is_library(self.sort(number)) => self.note(place, number),
@@ -284,7 +289,8 @@ impl<'a> Walker<'a> {
 
     /// The name of a prefix operator, where it has one.
     pub fn prefix(&mut self, alloc: Global, sign: &[u8], place: Place) -> Result<(), Memory>
-        ensures { OnOk result (book_of self.new ≡ spec.prefix_name sign.now place (book_of self.old)) }
+        ensures { OnOk result (book_of self.new
+            ≡ spec.prefix_name sign.now place (book_of self.old)) }
     {
         if sign == b"-".as_slice() {
             return self.operator(alloc, b"-.", sign, place);
@@ -294,7 +300,8 @@ impl<'a> Walker<'a> {
 
     /// The name of an infix operator, where it has one.
     pub fn infix(&mut self, alloc: Global, sign: &[u8], place: Place) -> Result<(), Memory>
-        ensures { OnOk result (book_of self.new ≡ spec.infix_name sign.now place (book_of self.old)) }
+        ensures { OnOk result (book_of self.new
+            ≡ spec.infix_name sign.now place (book_of self.old)) }
     {
         if is_among(&SIGNS, sign) {
             return self.operator(alloc, sign, sign, place);
@@ -314,7 +321,8 @@ impl<'a> Walker<'a> {
 
     /// The number of a fact of this name, where the newest declaration of the name is a fact's.
     pub fn fact(&self, name: &[u8]) -> Option<u64>
-        ensures { result ≡ spec.fact_of (book_of self.now) (found name.now (spec.scope_of (book_of self.now))) }
+        ensures { result
+            ≡ spec.fact_of (book_of self.now) (found name.now (spec.scope_of (book_of self.now))) }
     {
         match self.find(name) {
             Some(number) if is_fact(self.sort(number)) => Some(number),

@@ -1,4 +1,4 @@
-use Rattle.std.proofs.Common.{◌+◌, ◌++◌, [], ◌∷◌, map, drop, refl, sym, ap, ◌∙◌, arith}
+use Rattle.std.proofs.Common.{◌+◌, ◌++◌, [], ◌∷◌, map, drop, sym, ap, ◌∙◌, arith}
 use Rattle.plain_syntax.specs.Syntax.{module_of}
 use Rattle.module_scope.specs.Known.{book_of, exports_of, export_of}
 use Rattle.module_scope.specs.Resolution.{resolution, resolved}

@@ -4,7 +4,7 @@ use Rattle.tla_ast.specs.declared.unit.StepKind.{StepKind}
 use Rattle.plain_syntax.specs.Syntax.{term_of, terms_of, statement_of, proof_of, fact_of, move_of, each_group, each_def}
 use Rattle.module_scope.specs.Scope.{seen}
 use Rattle.module_scope.specs.Known.{book_of}
-use Rattle.module_scope.specs.Names.{Walk, ◌>>◌, alone, stated, chosen, each_alone, define, facts, move_names, proof_names, left, with_more}
+use Rattle.module_scope.specs.Names.{◌>>◌, alone, stated, chosen, each_alone, define, facts, move_names, proof_names, left, with_more}
 use Rattle.module_scope.specs.Visits.{step_names}
 use Rattle.module_scope.proofs.Visits.{because}
 use Rattle.module_scope.proofs.Steps.{inside-is, folded, next}

@@ -1,4 +1,4 @@
-use Rattle.std.proofs.Common.{map, sym, ap, ◌∙◌}
+use Rattle.std.proofs.Common.{map, sym, ◌∙◌}
 use Rattle.plain_syntax.specs.Syntax.{unit_of}
 use Rattle.module_scope.specs.Known.{exports_of}
 use Rattle.module_scope.specs.Names.{each, unit}
