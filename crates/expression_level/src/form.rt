@@ -11,8 +11,10 @@ use core_expr::Memory;
 use std::alloc::Global;
 use tla_ast::{Form, Place};
 
-/// The prefix operators that change a level.
-const UNCHANGED: &[u8] = b"UNCHANGED";
+/// The prefix operator that primes what it is applied to.
+pub const UNCHANGED: &[u8] = b"UNCHANGED";
+
+/// The other prefix operators that change a level.
 const ENABLED: &[u8] = b"ENABLED";
 const ALWAYS: &[u8] = b"[]";
 const EVENTUALLY: &[u8] = b"<>";
