@@ -101,7 +101,7 @@ pub fn by_form(form: &Form, found: Occurrence) -> Occurrence
 /// An operator over the last of what is on a stack, which it takes.
 pub fn operate(stack: &mut Vec<Occurrence>, form: &Form, operands: usize) -> Result<Occurrence, Memory>
     ensures taken { OnOk result (stack.new.items ≡ take (length stack.old.items - operands) stack.old.items) }
-    ensures occurrence { IfOk result (λ found. found ≡ spec.by_form form.now
+    ensures one { IfOk result (λ found. found ≡ spec.by_form form.now
         (spec.total (drop (length stack.old.items - operands) stack.old.items))) }
 {
     let taken = stack.split_off(stack.len().saturating_sub(operands))?;

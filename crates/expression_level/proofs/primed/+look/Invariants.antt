@@ -1,44 +1,43 @@
 use Rattle.std.proofs.Common.{◌≡◌, ◌+◌, ◌*◌, ◌++◌, [], ◌∷◌, map, drop, fold}
 use Rattle.tla_ast.specs.declared.tree.Path.{out-Path}
 use Rattle.plain_syntax.specs.Syntax.{term_of, terms_of, each_group, each_key, each_def}
-use Rattle.expression_level.specs.Weights.{join}
-use Rattle.expression_level.specs.Scope.{turned, lookt_of, lookts_of, sets_of, keys_on, bodies_of, with_definitions, updates_on}
-use Rattle.expression_level.proofs.walk.+look.Given as goal
+use Rattle.expression_level.specs.Occurrence.{join, turned, occurrence_of, occurrences_of, sets_of, keys_on, bodies_of, with_definitions, updates_on}
+use Rattle.expression_level.proofs.primed.+look.Given as goal
 
 abbrev pub invariant-look-loop-next : goal.invariant-look-loop-next
 invariant-look-loop-next l = record {
-  same : l.names ≡ l.fn.names;
-  order : fold (turned l.fn.names l.depth l.at) l.stack.items (map (λ n. term_of n.now) (drop l.next-index l.next-items)) ≡ lookt_of l.fn.names l.depth l.at (term_of l.node) ∷ [];
+  same : l.query ≡ l.fn.query;
+  order : fold (turned l.fn.query l.at) l.stack.items (map (λ n. term_of n.now) (drop l.next-index l.next-items)) ≡ occurrence_of l.fn.query l.at (term_of l.node) ∷ [];
 }
 
 abbrev pub invariant-each-loop-node : goal.invariant-each-loop-node
 invariant-each-loop-node l = record {
-  same : l.names ≡ l.fn.names;
-  rest : l.found.items ++ lookts_of l.fn.names l.depth l.at (terms_of (map term_of (drop l.node-index l.nodes))) ≡ lookts_of l.fn.names l.depth l.at (terms_of (map term_of l.nodes));
+  same : l.query ≡ l.fn.query;
+  rest : l.found.items ++ occurrences_of l.fn.query l.at (terms_of (map term_of (drop l.node-index l.nodes))) ≡ occurrences_of l.fn.query l.at (terms_of (map term_of l.nodes));
 }
 
 abbrev pub invariant-sets-loop-group : goal.invariant-sets-loop-group
 invariant-sets-loop-group l = record {
-  same : l.names ≡ l.fn.names;
-  rest : join l.all (sets_of l.fn.names l.depth l.at (each_group (drop l.group-index l.groups))) ≡ sets_of l.fn.names l.depth l.at (each_group l.groups);
+  same : l.query ≡ l.fn.query;
+  rest : join l.all (sets_of l.fn.query l.at (each_group (drop l.group-index l.groups))) ≡ sets_of l.fn.query l.at (each_group l.groups);
 }
 
 abbrev pub invariant-keys-loop-part : goal.invariant-keys-loop-part
 invariant-keys-loop-part l = record {
-  same : l.names ≡ l.fn.names;
-  rest : join l.all (keys_on l.fn.names l.depth l.at (each_key (drop l.part-index (out-Path l.path).keys))) ≡ keys_on l.fn.names l.depth l.at (each_key (out-Path l.path).keys);
+  same : l.query ≡ l.fn.query;
+  rest : join l.all (keys_on l.fn.query l.at (each_key (drop l.part-index (out-Path l.path).keys))) ≡ keys_on l.fn.query l.at (each_key (out-Path l.path).keys);
 }
 
 abbrev pub invariant-definitions-loop-def : goal.invariant-definitions-loop-def
 invariant-definitions-loop-def l = record {
-  known : with_definitions l.depth l.at (each_def (drop l.def-index l.defs)) l.names ≡ with_definitions l.depth l.at (each_def l.defs) l.fn.names;
-  rest : join l.all (bodies_of l.names l.depth l.at (each_def (drop l.def-index l.defs))) ≡ bodies_of l.fn.names l.depth l.at (each_def l.defs);
+  known : with_definitions l.at (each_def (drop l.def-index l.defs)) l.query ≡ with_definitions l.at (each_def l.defs) l.fn.query;
+  rest : join l.all (bodies_of l.query l.at (each_def (drop l.def-index l.defs))) ≡ bodies_of l.fn.query l.at (each_def l.defs);
 }
 
 abbrev pub invariant-except-loop-index : goal.invariant-except-loop-index
 invariant-except-loop-index l = record {
-  same : l.names ≡ l.fn.names;
-  rest : updates_on l.fn.names l.depth l.at (drop l.index l.paths) (drop l.index l.values) l.all ≡ updates_on l.fn.names l.depth l.at l.paths l.values l.initial.all;
+  same : l.query ≡ l.fn.query;
+  rest : updates_on l.fn.query l.at (drop l.index l.paths) (drop l.index l.values) l.all ≡ updates_on l.fn.query l.at l.paths l.values l.initial.all;
 }
 
 abbrev pub decreases-look : goal.decreases-look
