@@ -18,7 +18,6 @@ use Rattle.expression_level.proofs.Linear.{KnowAll, Agree, agree-inside, stands,
 abbrev pub at_first : Known
 at_first = defined 0 0 [] false
 
-
 closed-at : (ks : List Known) (n : ℕ) → AllClosed ks → depth_of (get_or ks n arguments) ≡ 0
 closed-at [] n c = refl
 closed-at (k ∷ ks) zero c = c.0
@@ -31,8 +30,8 @@ known-definition : (m : Place → Option ℕ) (ks : List Known) → AllClosed ks
     → Knows [] (λ args. told (level m (l.with_parameters m (levels_of ks) ps args) 0 t)) (definition 0 (length ps) (weigh m (0 + length ps) (with_parameters m 0 (declared_env ks) ps) at_first t))
 known-definition m ks c ps t =
     knows-definition [] 0 (length ps) (λ args. level m (l.with_parameters m (levels_of ks) ps args) 0 t) (weigh m (0 + length ps) (with_parameters m 0 (declared_env ks) ps) at_first t) refl
-      (λ args. stands m ([] ++ padded (length ps) args) (0 + length ps) (l.with_parameters m (levels_of ks) ps args) (with_parameters m 0 (declared_env ks) ps) 0 at_first
-        (agree-inside m [] 0 (levels_of ks) (declared_env ks) 0 at_first ps args (agrees m ks c)) t)
+    (λ args. stands m ([] ++ padded (length ps) args) (0 + length ps) (l.with_parameters m (levels_of ks) ps args) (with_parameters m 0 (declared_env ks) ps) 0 at_first
+    (agree-inside m [] 0 (levels_of ks) (declared_env ks) 0 at_first ps args (agrees m ks c)) t)
 
 pub definition-is : (ss : List (Place × ℕ)) (ks : List Known) → AllClosed ks → (ps : List Decl) (t : Term)
     → function_of [] (definition 0 (length ps) (body_weight (names_of ss ks) 0 at_first ps t)) ≡ definition_level (symbol_at ss) (levels_of ks) ps t

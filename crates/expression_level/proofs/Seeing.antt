@@ -78,7 +78,7 @@ module _ (c : Query) (k : Bool) where
   abbrev pub some_of : Terms → Occurrence
   some_of ts = record {
     held = p.some_holds (symbol_at c.symbols) (flags_of c.entries) c.number c.holders k ts;
-    primed = p.some_prime (symbol_at c.symbols) (flags_of c.entries) c.number c.holders k ts
+    primed = p.some_prime (symbol_at c.symbols) (flags_of c.entries) c.number c.holders k ts;
   }
 
   pub total-is : (ts : Terms) → total (occurrences_of c k ts) ≡ some_of ts
@@ -246,7 +246,7 @@ module _ (c : Query) (k : Bool) where
   applies : (ts : Terms) (q : Place) → occurrence_of c k (term (s.name []) ts q) ≡ at_name (mentions c q) (flags_at c q) (occurrences_of c k ts)
   applies ts q i = record {
     held = ap (λ x. mentions c q || x.held) (sym (total-is c k ts)) i;
-    primed = arguments-are (flags_at c q) ts i
+    primed = arguments-are (flags_at c q) ts i;
   }
 
   pub weighs-name : (n : Node) (w : Text) → (out-Node n).form ≡ form.Name w → occurrence_of c k (term_of n) ≡ at_name (mentions c (out-Node n).place) (flags_at c (out-Node n).place) (occurrences_of c k (parts_in n))
@@ -356,7 +356,7 @@ module _ (c : Query) (k : Bool) where
       let r = p.updates_prime (symbol_at c.symbols) (flags_of c.entries) c.number c.holders k ((x.held || ks.held) || v.held) (updates_of (map keys_of qs) (map term_of ms)) in
       record {
         held = p.updates_hold (symbol_at c.symbols) (flags_of c.entries) c.number c.holders k ((x.held || ks.held) || v.held) (updates_of (map keys_of qs) (map term_of ms));
-        primed = (or-assoc (x.primed || ks.primed) v.primed r ∙ or-assoc x.primed ks.primed (v.primed || r) ∙ ap (λ b. x.primed || b) (sym (or-assoc ks.primed v.primed r))) i
+        primed = (or-assoc (x.primed || ks.primed) v.primed r ∙ or-assoc x.primed ks.primed (v.primed || r) ∙ ap (λ b. x.primed || b) (sym (or-assoc ks.primed v.primed r))) i;
       }
 
   pub updates-next : (all now after next : Occurrence) (x y : Occurrence) (ps qs : List Path) (ns ms : List Node) (q : Path) (n : Node) → updates_on c k ps ns now ≡ all

@@ -86,7 +86,9 @@ uses-assoc (u ∷ us) (v ∷ vs) (w ∷ ws) = λ i. both-assoc u v w i ∷ uses-
 
 pub join-assoc : (x y z : Weight) → join (join x y) z ≡ join x (join y z)
 join-assoc x y z i = record {
-  least = higher-assoc x.least y.least z.least i; uses = uses-assoc x.uses y.uses z.uses i; faults = append_assoc x.faults y.faults z.faults i
+  least = higher-assoc x.least y.least z.least i;
+  uses = uses-assoc x.uses y.uses z.uses i;
+  faults = append_assoc x.faults y.faults z.faults i;
 }
 
 pub nothing-joined : (x : Weight) → join nothing x ≡ x

@@ -290,7 +290,7 @@ module _ (c : Names) (d : ℕ) (k : Known) where
   weighs-let n ds e =
       ap (weight_of c d k) (is-local n ds e)
       ∙ ap (λ ws. join (bodies_of c d k (each_def ds)) (total ws))
-        (sym (λ i. weigh_each (symbol_at (same-with-definitions d k (each_def ds) c i)) d (env-with-definitions d k (each_def ds) c i) k (parts_in n)))
+      (sym (λ i. weigh_each (symbol_at (same-with-definitions d k (each_def ds) c i)) d (env-with-definitions d k (each_def ds) c i) k (parts_in n)))
 
   -- ---- all other forms
 

@@ -82,7 +82,7 @@ at_name b fs xs = record { held = b || (total xs).held; primed = primes_some fs 
 abbrev pub occurrence_of : Query → Bool → Term → Occurrence
 occurrence_of q a t = record {
   held = p.holds (symbol_at q.symbols) (flags_of q.entries) q.number q.holders a t;
-  primed = p.primes (symbol_at q.symbols) (flags_of q.entries) q.number q.holders a t
+  primed = p.primes (symbol_at q.symbols) (flags_of q.entries) q.number q.holders a t;
 }
 
 abbrev pub occurrences_of : Query → Bool → Terms → List Occurrence
@@ -92,20 +92,20 @@ occurrences_of q a (part t ts) = occurrence_of q a t ∷ occurrences_of q a ts
 abbrev pub sets_of : Query → Bool → Groups → Occurrence
 sets_of q a gs = record {
   held = p.sets_hold (symbol_at q.symbols) (flags_of q.entries) q.number q.holders a gs;
-  primed = p.sets_prime (symbol_at q.symbols) (flags_of q.entries) q.number q.holders a gs
+  primed = p.sets_prime (symbol_at q.symbols) (flags_of q.entries) q.number q.holders a gs;
 }
 
 abbrev pub keys_on : Query → Bool → Keys → Occurrence
 keys_on q a ks = record {
   held = p.keys_hold (symbol_at q.symbols) (flags_of q.entries) q.number q.holders a ks;
-  primed = p.keys_prime (symbol_at q.symbols) (flags_of q.entries) q.number q.holders a ks
+  primed = p.keys_prime (symbol_at q.symbols) (flags_of q.entries) q.number q.holders a ks;
 }
 
 -- updates after what stands so far
 abbrev pub updates_on : Query → Bool → List Path → List Node → Occurrence → Occurrence
 updates_on q a ps ns x = record {
   held = p.updates_hold (symbol_at q.symbols) (flags_of q.entries) q.number q.holders a x.held (updates_of (map keys_of ps) (map term_of ns));
-  primed = x.primed || p.updates_prime (symbol_at q.symbols) (flags_of q.entries) q.number q.holders a x.held (updates_of (map keys_of ps) (map term_of ns))
+  primed = x.primed || p.updates_prime (symbol_at q.symbols) (flags_of q.entries) q.number q.holders a x.held (updates_of (map keys_of ps) (map term_of ns));
 }
 
 abbrev pub excepted : Query → Bool → List Path → List Node → Occurrence
@@ -115,7 +115,7 @@ excepted q a ps (n ∷ ns) = updates_on q a ps ns (occurrence_of q a (term_of n)
 abbrev pub bodies_of : Query → Bool → Defs → Occurrence
 bodies_of q a ds = record {
   held = p.bodies_hold (symbol_at q.symbols) (flags_of q.entries) q.number q.holders a ds;
-  primed = p.bodies_prime (symbol_at q.symbols) (flags_of q.entries) q.number q.holders a ds
+  primed = p.bodies_prime (symbol_at q.symbols) (flags_of q.entries) q.number q.holders a ds;
 }
 
 abbrev pub with_definition : Bool → Term → Place → Query → Query
@@ -144,9 +144,9 @@ by_form f = ruled (out-Form f)
 -- an operator takes what stands in its operands from a stack
 abbrev pub turned : Query → Bool → List Occurrence → Term → List Occurrence
 turned q a stack (term f ts p) = elim (is_operator f) [
-    | true ↦ take (length stack - count ts) stack ++ form_occurrence f (total (drop (length stack - count ts) stack)) ∷ []
-    | false ↦ stack ++ occurrence_of q a (term f ts p) ∷ []
-  ]
+  | true ↦ take (length stack - count ts) stack ++ form_occurrence f (total (drop (length stack - count ts) stack)) ∷ []
+  | false ↦ stack ++ occurrence_of q a (term f ts p) ∷ []
+]
 
 abbrev pub is_held : Query → ℕ → Bool
 is_held q n = is_one_of q.holders (Some n)

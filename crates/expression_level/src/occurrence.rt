@@ -68,7 +68,7 @@ pub fn all_together(found: &[Occurrence]) -> Occurrence
 }
 
 /// Whether arguments are primed by what is applied to them, or in themselves.
-pub fn primes_some(flags: &[bool], args: &[Occurrence]) -> bool
+fn primes_some(flags: &[bool], args: &[Occurrence]) -> bool
     ensures { result ≡ spec.primes_some flags.now args.now }
 {
     for (index, arg) in args.iter().enumerate() {
@@ -80,11 +80,26 @@ pub fn primes_some(flags: &[bool], args: &[Occurrence]) -> bool
     false
 }
 
+/// A name that stands for the parameter or not, applied to arguments.
+pub fn at_name(mentioned: bool, flags: &[bool], args: &[Occurrence]) -> Occurrence
+    ensures { result ≡ spec.at_name mentioned flags.now args.now }
+{
+    let all = all_together(args);
+    Occurrence {
+        held: mentioned || all.held,
+        primed: primes_some(flags, args),
+    }
+}
+
 /// What a prefix operator makes of its operand.
 fn prefix(operator: &[u8], found: Occurrence) -> Occurrence
     ensures { result ≡ spec.prefix_occurrence operator.now found }
 {
-    if operator == UNCHANGED { found.all_primed() } else { found }
+    if operator == UNCHANGED {
+        found.all_primed()
+    } else {
+        found
+    }
 }
 
 /// What a form makes of its parts, where they stand under no names of its own.
@@ -99,7 +114,11 @@ pub fn by_form(form: &Form, found: Occurrence) -> Occurrence
 }
 
 /// An operator over the last of what is on a stack, which it takes.
-pub fn operate(stack: &mut Vec<Occurrence>, form: &Form, operands: usize) -> Result<Occurrence, Memory>
+pub fn operate(
+    stack: &mut Vec<Occurrence>,
+    form: &Form,
+    operands: usize,
+) -> Result<Occurrence, Memory>
     ensures taken { OnOk result (stack.new.items ≡ take (length stack.old.items - operands) stack.old.items) }
     ensures one { IfOk result (λ found. found ≡ spec.by_form form.now
         (spec.total (drop (length stack.old.items - operands) stack.old.items))) }

@@ -12,7 +12,7 @@ ghost use Rattle.expression_level.specs.Primed as primed;
 ghost use Rattle.expression_level.specs.Scope.{IsExcept};
 ghost use Rattle.expression_level.specs.Store.{flags_of};
 
-use crate::occurrence::{Occurrence, all_together, by_form, operate, primes_some};
+use crate::occurrence::{Occurrence, all_together, at_name, by_form, operate};
 use crate::query::Query;
 use core_expr::Memory;
 use plain_syntax::{is_operator, operator_order};
@@ -40,7 +40,13 @@ fn look(alloc: Global, query: &mut Query<'_>, at: bool, node: &Node) -> Result<O
 
 /// Puts what stands in a node on a stack, from which an operator takes that of its operands.
 #[cycle(look)]
-fn turn(alloc: Global, query: &mut Query<'_>, at: bool, node: &Node, stack: &mut Vec<Occurrence>) -> Result<(), Memory>
+fn turn(
+    alloc: Global,
+    query: &mut Query<'_>,
+    at: bool,
+    node: &Node,
+    stack: &mut Vec<Occurrence>,
+) -> Result<(), Memory>
     ensures same { OnOk result (query.new ≡ query.old) }
     ensures turned { OnOk result (stack.new.items
         ≡ spec.turned query.old at stack.old.items (term_of node.now)) }
@@ -95,7 +101,12 @@ fn leaf(alloc: Global, query: &mut Query<'_>, at: bool, node: &Node) -> Result<O
 
 /// Several expressions, one after another.
 #[cycle(look)]
-fn each(alloc: Global, query: &mut Query<'_>, at: bool, nodes: &[Node]) -> Result<Vec<Occurrence>, Memory>
+fn each(
+    alloc: Global,
+    query: &mut Query<'_>,
+    at: bool,
+    nodes: &[Node],
+) -> Result<Vec<Occurrence>, Memory>
     ensures same { OnOk result (query.new ≡ query.old) }
     ensures each { IfOk result (λ each. each.items
         ≡ spec.occurrences_of query.old at (terms_of (map term_of nodes.now))) }
@@ -117,9 +128,7 @@ fn name(alloc: Global, query: &mut Query<'_>, at: bool, node: &Node) -> Result<O
         (spec.occurrences_of query.old at (terms_of (map term_of (out-Node node.now).parts)))) }
 {
     let args = each(alloc, query, at, node.parts.as_slice())?;
-    let held = query.mentions(node.place) || all_together(&args).held;
-    let primed = primes_some(query.flags(node.place), &args);
-    Ok(Occurrence { held, primed })
+    Ok(at_name(query.mentions(node.place), query.flags(node.place), &args))
 }
 
 /// An action with its subscript.
@@ -139,7 +148,12 @@ fn action(alloc: Global, query: &mut Query<'_>, at: bool, node: &Node) -> Result
 
 /// The set of a group of bounds.
 #[cycle(look)]
-fn domain(alloc: Global, query: &mut Query<'_>, at: bool, group: &Group) -> Result<Occurrence, Memory>
+fn domain(
+    alloc: Global,
+    query: &mut Query<'_>,
+    at: bool,
+    group: &Group,
+) -> Result<Occurrence, Memory>
     ensures same { OnOk result (query.new ≡ query.old) }
     ensures one { IfOk result (λ one. one ≡ spec.domain_occurrence query.old at (out-Group group.now).domain) }
 {
@@ -151,7 +165,12 @@ fn domain(alloc: Global, query: &mut Query<'_>, at: bool, group: &Group) -> Resu
 
 /// The sets of bounds.
 #[cycle(look)]
-fn sets(alloc: Global, query: &mut Query<'_>, at: bool, groups: &[Group]) -> Result<Occurrence, Memory>
+fn sets(
+    alloc: Global,
+    query: &mut Query<'_>,
+    at: bool,
+    groups: &[Group],
+) -> Result<Occurrence, Memory>
     ensures same { OnOk result (query.new ≡ query.old) }
     ensures one { IfOk result (λ one. one ≡ spec.sets_of query.old at (each_group groups.now)) }
 {
@@ -166,7 +185,13 @@ fn sets(alloc: Global, query: &mut Query<'_>, at: bool, groups: &[Group]) -> Res
 
 /// The parts of a node, behind what stands before them.
 #[cycle(look)]
-fn behind(alloc: Global, query: &mut Query<'_>, at: bool, before: Occurrence, node: &Node) -> Result<Occurrence, Memory>
+fn behind(
+    alloc: Global,
+    query: &mut Query<'_>,
+    at: bool,
+    before: Occurrence,
+    node: &Node,
+) -> Result<Occurrence, Memory>
     ensures same { OnOk result (query.new ≡ query.old) }
     ensures one { IfOk result (λ one. one ≡ spec.join before
         (spec.total (spec.occurrences_of query.old at (terms_of (map term_of (out-Node node.now).parts))))) }
@@ -236,7 +261,12 @@ fn except(alloc: Global, query: &mut Query<'_>, at: bool, node: &Node) -> Result
 
 /// A definition of a LET, which is known from then on.
 #[cycle(look)]
-fn definition(alloc: Global, query: &mut Query<'_>, at: bool, def: &Def) -> Result<Occurrence, Memory>
+fn definition(
+    alloc: Global,
+    query: &mut Query<'_>,
+    at: bool,
+    def: &Def,
+) -> Result<Occurrence, Memory>
     ensures known { OnOk result (query.new
         ≡ spec.with_definition at (term_of (out-Def def.now).body) (out-Def def.now).place query.old) }
     ensures one { IfOk result (λ one. one ≡ spec.occurrence_of query.old at (term_of (out-Def def.now).body)) }
@@ -248,7 +278,12 @@ fn definition(alloc: Global, query: &mut Query<'_>, at: bool, def: &Def) -> Resu
 
 /// The definitions of a LET.
 #[cycle(look)]
-fn definitions(alloc: Global, query: &mut Query<'_>, at: bool, defs: &[Def]) -> Result<Occurrence, Memory>
+fn definitions(
+    alloc: Global,
+    query: &mut Query<'_>,
+    at: bool,
+    defs: &[Def],
+) -> Result<Occurrence, Memory>
     ensures known { OnOk result (query.new ≡ spec.with_definitions at (each_def defs.now) query.old) }
     ensures one { IfOk result (λ one. one ≡ spec.bodies_of query.old at (each_def defs.now)) }
 {
@@ -262,7 +297,13 @@ fn definitions(alloc: Global, query: &mut Query<'_>, at: bool, defs: &[Def]) -> 
 }
 
 /// Whether the body of a definition primes the parameter of this number, if it has one.
-fn is_primed(alloc: Global, symbols: &Symbols, entries: &[Entry], number: Option<u64>, body: &Node) -> Result<bool, Memory>
+fn is_primed(
+    alloc: Global,
+    symbols: &Symbols,
+    entries: &[Entry],
+    number: Option<u64>,
+    body: &Node,
+) -> Result<bool, Memory>
     ensures { IfOk result (λ found. found ≡ primed.number_is_primed (symbol_at symbols.now)
         (flags_of entries.now) (term_of body.now) number) }
 {
