@@ -1,11 +1,9 @@
 -- The linear form of levels is the levels: under any levels of the parameters, a weight has the level of its expression, and a fault
 -- where there is one.
-use Rattle.std.proofs.Common.{◌≡◌, ℕ, zero, suc, ◌+◌, ◌≤◌, ◌<◌, Bool, true, false, ◌||◌, ◌&&◌, nat_lt, nat_eq, if◌then◌else◌, List, [], ◌∷◌, ◌++◌, map, take, drop, length, Option, Some, None, refl, sym, ap, subst, ◌∙◌, arith, append_assoc, append-nil, length-append}
-use Rattle.std.proofs.lemmas.List.{take-append-le}
+use Rattle.std.proofs.Common.{◌≡◌, ℕ, zero, suc, ◌≤◌, Bool, true, false, ◌||◌, nat_lt, List, [], ◌∷◌, ◌++◌, map, take, drop, length, refl, sym, ap, ◌∙◌, arith, append-nil}
 use Rattle.tla_ast.specs.declared.place.Place.{Place}
-use Rattle.tla_ast.specs.declared.tree.Decl.{Decl}
 use Rattle.expression_level.specs.declared.weight.Use.{Use}
-use Rattle.expression_level.specs.Levels.{Judged, Several, Applied, Levels, higher, greatest, raised, has_fault, fault_if, told, constantly, bind, before, beside, overall, at_name, limited, primed_level, action_level, with_parameters}
+use Rattle.expression_level.specs.Levels.{Judged, Several, Applied, higher, greatest, raised, has_fault, fault_if, before, beside, overall, at_name, limited, primed_level, action_level}
 use Rattle.expression_level.specs.Weights as w
 use Rattle.expression_level.specs.Weights.{Weight, Known, Env, counted, is_over, level_from, breaks, level_under, fault_under, nothing, join, total, fixed, with_fault, capped, lifted, put, put_breaks, depth_of, function_of, padded, unused, uses_of, parameter, definition, unlimited, result_so_far, asked_round}
 use Rattle.expression_level.specs.Weights.Known.{arguments, defined}

@@ -1,11 +1,9 @@
 -- The walk of the code over an expression finds how a parameter stands in it.
 use Rattle.std.proofs.Common.{◌≡◌, ◌≤◌, ◌<◌, ◌++◌, ◌+◌, ◌-◌, nat_eq, ℕ, zero, suc, Bool, true, false, ◌||◌, ◌&&◌, if◌then◌else◌, codes, List, [], ◌∷◌, fold, map, take, drop, length, get_or, Option, Some, None, refl, sym, ap, subst, ◌∙◌, arith, append_assoc, append-nil, length-append, drop-cons, add-one}
-use Rattle.std.specs.Prelude.{Result, Ok, Err, IfOk, OnOk}
 use Rattle.std.specs.Borrow.{Bor}
 use Rattle.std.specs.List.{list_any}
 use Rattle.std.proofs.lemmas.Grind.{fold-append}
 use Rattle.std.proofs.lemmas.List.{take_at, drop_at, take-append-le, take_all}
-use Rattle.core_expr.specs.declared.memory.Memory.{Memory}
 use Rattle.tla_ast.specs.declared.place.Place.{Place}
 use Rattle.tla_ast.specs.declared.tree.Decl.{Decl}
 use Rattle.tla_ast.specs.declared.tree.Node.{Node, out-Node}
@@ -24,7 +22,7 @@ use Rattle.plain_syntax.specs.Plain.Term.{term}
 use Rattle.plain_syntax.specs.Plain.Terms.{none, part}
 use Rattle.plain_syntax.specs.Plain.Defs.{end_defs, def}
 use Rattle.plain_syntax.specs.Plain.{Shape as s}
-use Rattle.plain_syntax.specs.Syntax.{Held, shape_of, key_of, def_of, group_of, node_of, path_of, term_of, terms_of, keys_of, key_keys, each_key, groups_of, each_group, defs_of, each_def, with_domain, set_of, except_of, updates_of}
+use Rattle.plain_syntax.specs.Syntax.{Held, shape_of, key_of, def_of, group_of, node_of, path_of, term_of, terms_of, keys_of, key_keys, each_key, groups_of, each_group, each_def, with_domain, set_of, except_of, updates_of}
 use Rattle.plain_syntax.specs.Order.{order, orders, joined_by, joins}
 use Rattle.plain_syntax.proofs.Forms.{held, by-form, parts_in, is-name, is-call, is-box, is-angle, is-at, is-except, is-quantifier, is-choice, is-local, is-path, is-key, is-field-key, is-group, is-def}
 use Rattle.expression_level.specs.declared.occurrence.Occurrence.{Occurrence}

@@ -1,7 +1,7 @@
 -- How a parameter stands in the expressions of a body, as the code looks for it.
-use Rattle.std.specs.Prelude.{◌≡◌, ℕ, suc, ◌+◌, ◌-◌, Bool, true, false, ◌||◌, ◌&&◌, if◌then◌else◌, List, [], ◌∷◌, ◌++◌, map, take, drop, length, Option, Some, None, codes}
+use Rattle.std.specs.Prelude.{ℕ, ◌-◌, Bool, true, false, ◌||◌, ◌&&◌, if◌then◌else◌, List, [], ◌∷◌, ◌++◌, map, take, drop, length, Option, Some, None, codes}
 use Rattle.tla_ast.specs.declared.place.Place.{Place}
-use Rattle.tla_ast.specs.declared.tree.Node.{Node, out-Node}
+use Rattle.tla_ast.specs.declared.tree.Node.{Node}
 use Rattle.tla_ast.specs.declared.tree.Form.{Form, out-Form}
 use Rattle.tla_ast.specs.declared.tree.Form.TheOpen.{Form-F}
 use Rattle.tla_ast.specs.declared.tree.Path.{Path}

@@ -1,11 +1,11 @@
-use Rattle.std.proofs.Common.{◌≡◌, ◌≤◌, ◌<◌, ◌+◌, ◌++◌, [], ◌∷◌, map, take, drop, fold, length, slice_index_or, refl, sym, ap, subst, ◌∙◌, arith, append-nil}
+use Rattle.std.proofs.Common.{◌≡◌, ◌≤◌, ◌<◌, ◌+◌, ◌++◌, [], ◌∷◌, map, drop, fold, length, slice_index_or, refl, sym, ap, subst, ◌∙◌, arith, append-nil}
 use Rattle.tla_ast.specs.declared.tree.Node.{out-Node, size-Node}
 use Rattle.tla_ast.specs.declared.tree.Def.{out-Def}
 use Rattle.tla_ast.specs.declared.tree.Group.{out-Group}
 use Rattle.tla_ast.specs.declared.tree.Path.{out-Path}
 use Rattle.plain_syntax.specs.Syntax.{term_of, terms_of, each_group, each_key, each_def}
 use Rattle.expression_level.specs.Occurrence.{join, total, action_occurrence, at_name, mentions, flags_at, turned, occurrence_of, occurrences_of, sets_of, keys_on, bodies_of, updates_on, domain_occurrence, by_form, acted, left, with_holder, with_definitions}
-use Rattle.expression_level.proofs.Walks.{next-one, all-past, last-one, because, in-any-case}
+use Rattle.expression_level.proofs.Walks.{next-one, all-past, last-one, because}
 use Rattle.expression_level.proofs.Seeing.{joined-nowhere, in-order, turns-operator, turns-leaf, turn-next, weighs-name, weighs-call, weighs-box, weighs-angle, weighs-at, weighs-quant, weighs-choose, weighs-let, weighs-plain, sets-next, keys-next, weighs-key, weighs-field-key, each-next, updates-next, no-more-paths, no-more-values, except-begins, except-empty, bodies-step, known-step, definitions-left}
 use Rattle.expression_level.proofs.primed.+look.Goals as goal
 

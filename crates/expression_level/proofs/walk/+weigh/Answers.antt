@@ -5,9 +5,9 @@ use Rattle.tla_ast.specs.declared.tree.Group.{out-Group}
 use Rattle.tla_ast.specs.declared.tree.Path.{out-Path}
 use Rattle.plain_syntax.specs.Syntax.{term_of, terms_of, each_group, each_key, each_def}
 use Rattle.expression_level.specs.Levels.{has_fault}
-use Rattle.expression_level.specs.Weights.{at_name, join, total, action_weight, asked_round, definition, result_so_far}
+use Rattle.expression_level.specs.Weights.{at_name, join, total, action_weight, asked_round}
 use Rattle.expression_level.specs.Weights.Known.{defined}
-use Rattle.expression_level.specs.Scope.{turned, weight_of, weights_of, sets_of, keys_on, bodies_of, updates_on, domain_weight, by_form, acted, left, with_name, with_parameters, with_definitions, body_weight}
+use Rattle.expression_level.specs.Scope.{turned, weight_of, weights_of, sets_of, keys_on, bodies_of, updates_on, domain_weight, by_form, acted, left, with_name, with_parameters, with_definitions}
 use Rattle.expression_level.proofs.Uses.{joined-nothing}
 use Rattle.expression_level.proofs.Locals.{definitions-left, parameters-left, weigh-with-parameters}
 use Rattle.expression_level.proofs.Walks.{in-order, turns-operator, turns-leaf, turn-next, weighs-name, weighs-call, weighs-box, weighs-angle, weighs-at, weighs-quant, weighs-choose, weighs-let, weighs-plain, sets-next, keys-next, weighs-key, weighs-field-key, each-next, updates-next, no-more-values, except-begins, except-empty, bodies-step, known-step, next-one, all-past, last-one, because, in-any-case}

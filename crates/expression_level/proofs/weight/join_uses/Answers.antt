@@ -1,4 +1,4 @@
-use Rattle.std.proofs.Common.{arith, rules, ap, ◌∙◌}
+use Rattle.std.proofs.Common.{rules, ap, ◌∙◌}
 use Rattle.expression_level.proofs.Uses.{join-next, join-more, none-joined}
 use Rattle.expression_level.proofs.weight.join_uses.Goals as goal
 use Rattle.expression_level.proofs.weight.join_uses.Goals.{then-index-len, else-index-len+in_ok-push}

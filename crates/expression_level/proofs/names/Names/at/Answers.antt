@@ -1,4 +1,4 @@
-use Rattle.std.proofs.Common.{arith, ap, sym, ◌∙◌, get_or}
+use Rattle.std.proofs.Common.{ap, sym, ◌∙◌, get_or}
 use Rattle.symbol_table.specs.Symbols.{symbol_at}
 use Rattle.expression_level.specs.Weights.Known.{arguments}
 use Rattle.expression_level.proofs.Locals.{at-local, at-declared, get-found}
