@@ -1,11 +1,9 @@
 -- The linear form of levels is the levels: under any levels of the parameters, a weight has the level of its expression, and a fault
 -- where there is one.
-use Rattle.std.proofs.Common.{◌≡◌, ℕ, zero, suc, ◌+◌, ◌≤◌, ◌<◌, Bool, true, false, ◌||◌, ◌&&◌, nat_lt, nat_eq, if◌then◌else◌, List, [], ◌∷◌, ◌++◌, map, take, drop, length, Option, Some, None, refl, sym, ap, subst, ◌∙◌, arith, append_assoc, append-nil, length-append}
-use Rattle.std.proofs.lemmas.List.{take-append-le}
+use Rattle.std.proofs.Common.{◌≡◌, ℕ, zero, suc, ◌≤◌, Bool, true, false, ◌||◌, nat_lt, List, [], ◌∷◌, ◌++◌, map, take, drop, length, refl, sym, ap, ◌∙◌, arith, append-nil}
 use Rattle.tla_ast.specs.declared.place.Place.{Place}
-use Rattle.tla_ast.specs.declared.tree.Decl.{Decl}
 use Rattle.expression_level.specs.declared.weight.Use.{Use}
-use Rattle.expression_level.specs.Levels.{Judged, Several, Applied, Levels, higher, greatest, raised, has_fault, fault_if, told, constantly, bind, before, beside, overall, at_name, limited, primed_level, action_level, with_parameters}
+use Rattle.expression_level.specs.Levels.{Judged, Several, Applied, higher, greatest, raised, has_fault, fault_if, before, beside, overall, at_name, limited, primed_level, action_level}
 use Rattle.expression_level.specs.Weights as w
 use Rattle.expression_level.specs.Weights.{Weight, Known, Env, counted, is_over, level_from, breaks, level_under, fault_under, nothing, join, total, fixed, with_fault, capped, lifted, put, put_breaks, depth_of, function_of, padded, unused, uses_of, parameter, definition, unlimited, result_so_far, asked_round}
 use Rattle.expression_level.specs.Weights.Known.{arguments, defined}
@@ -42,24 +40,24 @@ stands-nothing r = (refl, (refl, λ z. refl))
 
 pub stands-beside : (r : List ℕ) (i j : Judged) (x y : Weight) → Stands r i x → Stands r j y → Stands r (beside i j) (join x y)
 stands-beside r i j x y s t = (
-    (λ k. higher (s.0 k) (t.0 k)) ∙ sym (level-join r x y),
-    (has-fault-append i.1 j.1 ∙ (λ k. s.1.0 k || t.1.0 k) ∙ sym (fault-join r x y), λ z k. s.1.1 z k ++ t.1.1 z k)
-  )
+  (λ k. higher (s.0 k) (t.0 k)) ∙ sym (level-join r x y),
+  (has-fault-append i.1 j.1 ∙ (λ k. s.1.0 k || t.1.0 k) ∙ sym (fault-join r x y), λ z k. s.1.1 z k ++ t.1.1 z k),
+)
 
 pub stands-fixed : (r : List ℕ) (l : ℕ) (j : Judged) (x : Weight) → Stands r j x → Stands r (l, j.1) (fixed l x)
 stands-fixed r l j x s = (sym (level-fixed r l x), (s.1.0 ∙ sym (fault-fixed r l x), s.1.1))
 
 pub stands-limited : (r : List ℕ) (k : ℕ) (p : Place) (j : Judged) (x : Weight) → Stands r j x → Stands r (limited k p j) (w.limited k p x)
 stands-limited r k p j x s = (
-    s.0 ∙ sym (level-capped r k x),
-    (
-      has-fault-append j.1 (fault_if (nat_lt k j.0) p)
-      ∙ (λ i. s.1.0 i || (has-fault-if (nat_lt k j.0) p ∙ ap (nat_lt k) s.0) i)
-      ∙ sym (fault-capped r k x)
-      ∙ sym (fault-with r (nat_lt k x.least) p (capped k x)),
-      λ z i. s.1.1 z i ++ fault_if (nat_lt k ((s.0 ∙ least-at-zeros r x z) i)) p
-    )
-  )
+  s.0 ∙ sym (level-capped r k x),
+  (
+    has-fault-append j.1 (fault_if (nat_lt k j.0) p)
+        ∙ (λ i. s.1.0 i || (has-fault-if (nat_lt k j.0) p ∙ ap (nat_lt k) s.0) i)
+        ∙ sym (fault-capped r k x)
+        ∙ sym (fault-with r (nat_lt k x.least) p (capped k x)),
+    λ z i. s.1.1 z i ++ fault_if (nat_lt k ((s.0 ∙ least-at-zeros r x z) i)) p,
+  ),
+)
 
 pub stands-primed : (r : List ℕ) (p : Place) (j : Judged) (x : Weight) → Stands r j x → Stands r (primed_level p j) (lifted (w.limited 1 p x))
 stands-primed r p j x s =
@@ -69,20 +67,19 @@ stands-primed r p j x s =
 pub stands-action : (r : List ℕ) (p : Place) (a v : Judged) (x y : Weight) → Stands r a x → Stands r v y → Stands r (action_level p a v) (w.action_weight p x y)
 stands-action r p a v x y s t =
     let b = nat_lt 2 x.least || nat_lt 1 y.least in
-    let c = nat_lt 2 a.0 || nat_lt 1 v.0 in
-    (
+    let c = nat_lt 2 a.0 || nat_lt 1 v.0 in (
       sym (level-fixed r 2 (with_fault b p (join (capped 2 x) (capped 1 y)))),
       (
         has-fault-append (a.1 ++ v.1) (fault_if c p)
-        ∙ (λ i. has-fault-append a.1 v.1 i || has-fault-if c p i)
-        ∙ (λ i. (s.1.0 i || t.1.0 i) || (nat_lt 2 (s.0 i) || nat_lt 1 (t.0 i)))
-        ∙ or-shuffle (fault_under r x) (fault_under r y) (nat_lt 2 (level_under r x)) (nat_lt 1 (level_under r y))
-        ∙ sym (λ i. fault-capped r 2 x i || fault-capped r 1 y i)
-        ∙ or-shuffle (fault_under r (capped 2 x)) (nat_lt 2 x.least) (fault_under r (capped 1 y)) (nat_lt 1 y.least)
-        ∙ sym (fault-with r b p (join (capped 2 x) (capped 1 y)) ∙ ap (λ f. f || b) (fault-join r (capped 2 x) (capped 1 y)))
-        ∙ sym (fault-fixed r 2 (with_fault b p (join (capped 2 x) (capped 1 y)))),
-        λ z i. (s.1.1 z i ++ t.1.1 z i) ++ fault_if (nat_lt 2 ((s.0 ∙ least-at-zeros r x z) i) || nat_lt 1 ((t.0 ∙ least-at-zeros r y z) i)) p
-      )
+            ∙ (λ i. has-fault-append a.1 v.1 i || has-fault-if c p i)
+            ∙ (λ i. (s.1.0 i || t.1.0 i) || (nat_lt 2 (s.0 i) || nat_lt 1 (t.0 i)))
+            ∙ or-shuffle (fault_under r x) (fault_under r y) (nat_lt 2 (level_under r x)) (nat_lt 1 (level_under r y))
+            ∙ sym (λ i. fault-capped r 2 x i || fault-capped r 1 y i)
+            ∙ or-shuffle (fault_under r (capped 2 x)) (nat_lt 2 x.least) (fault_under r (capped 1 y)) (nat_lt 1 y.least)
+            ∙ sym (fault-with r b p (join (capped 2 x) (capped 1 y)) ∙ ap (λ f. f || b) (fault-join r (capped 2 x) (capped 1 y)))
+            ∙ sym (fault-fixed r 2 (with_fault b p (join (capped 2 x) (capped 1 y)))),
+        λ z i. (s.1.1 z i ++ t.1.1 z i) ++ fault_if (nat_lt 2 ((s.0 ∙ least-at-zeros r x z) i) || nat_lt 1 ((t.0 ∙ least-at-zeros r y z) i)) p,
+      ),
     )
 
 -- ---- several expressions
@@ -92,9 +89,9 @@ StandEach r js xs = (js.0 ≡ map (level_under r) xs) × ((has_fault js.1 ≡ fa
 
 pub each-before : (r : List ℕ) (j : Judged) (js : Several) (x : Weight) (xs : List Weight) → Stands r j x → StandEach r js xs → StandEach r (before j js) (x ∷ xs)
 each-before r j js x xs s t = (
-    λ k. s.0 k ∷ t.0 k,
-    (has-fault-append j.1 js.1 ∙ (λ k. s.1.0 k || t.1.0 k) ∙ sym (fault-join r x (total xs)), λ z k. s.1.1 z k ++ t.1.1 z k)
-  )
+  λ k. s.0 k ∷ t.0 k,
+  (has-fault-append j.1 js.1 ∙ (λ k. s.1.0 k || t.1.0 k) ∙ sym (fault-join r x (total xs)), λ z k. s.1.1 z k ++ t.1.1 z k),
+)
 
 pub greatest-total : (r : List ℕ) (xs : List Weight) → greatest (map (level_under r) xs) ≡ level_under r (total xs)
 greatest-total r [] = refl
@@ -153,33 +150,35 @@ stands-at-name r p f (defined d l us b) js xs n t =
     let q = put_breaks (drop d us) xs in
     let all = join (fixed 0 (total xs)) (join own x) in
     let level =
-      ap (λ y. y.0) e
-      ∙ ap (higher l) (split-level d us r args n.0)
-      ∙ sym (higher-assoc l (level_from (take d us) r) (level_from (drop d us) args))
-      ∙ ap (higher (level_under r own)) (level-put (drop d us) xs r)
-      ∙ sym (level-join r own x)
-      ∙ sym (higher-zero (level_under r (join own x)))
-      ∙ ap (λ y. higher y (level_under r (join own x))) (sym (level-fixed r 0 (total xs)))
-      ∙ sym (level-join r (fixed 0 (total xs)) (join own x))
+    ap (λ y. y.0) e
+    ∙ ap (higher l) (split-level d us r args n.0)
+    ∙ sym (higher-assoc l (level_from (take d us) r) (level_from (drop d us) args))
+    ∙ ap (higher (level_under r own)) (level-put (drop d us) xs r)
+    ∙ sym (level-join r own x)
+    ∙ sym (higher-zero (level_under r (join own x)))
+    ∙ ap (λ y. higher y (level_under r (join own x))) (sym (level-fixed r 0 (total xs)))
+    ∙ sym (level-join r (fixed 0 (total xs)) (join own x))
     in
     let broken = split-breaks d us r args n.0 ∙ ap (λ y. breaks (take d us) r || y) (breaks-put (drop d us) xs r) in
     let found = ap (λ y. y.1) e ∙ ap (λ y. b || y) broken in
     let under = ap (λ fs. has_fault fs || breaks x.uses r) (put-has-no-fault (drop d us) xs) in
     let fault =
-      has-fault-append js.1 (fault_if (f js.0).1 p)
-      ∙ (λ i. t.1.0 i || (has-fault-if (f js.0).1 p ∙ found) i)
-      ∙ order-faults (fault_under r (total xs)) b (breaks (take d us) r) q (breaks x.uses r)
-      ∙ sym (
-        fault-with r (b || q) p all
-        ∙ ap (λ y. y || (b || q)) (
-          fault-join r (fixed 0 (total xs)) (join own x)
-          ∙ (λ i. fault-fixed r 0 (total xs) i || (fault-join r own x ∙ ap (λ y. breaks (take d us) r || y) under) i)
-        )
-      )
-    in
-    (level, (
-      fault,
-      λ z.
-      let none = found ∙ (λ i. b || (breaks-at-zeros (take d us) r z i || (q || breaks-at-zeros x.uses r z i))) ∙ ap (λ y. b || y) (or-false q) in
-      λ i. (t.1.1 z ∙ sym (append-nil (total xs).faults) ∙ ap (λ fs. (total xs).faults ++ fs) (sym (put-has-no-fault (drop d us) xs))) i ++ fault_if (none i) p
-    ))
+    has-fault-append js.1 (fault_if (f js.0).1 p)
+    ∙ (λ i. t.1.0 i || (has-fault-if (f js.0).1 p ∙ found) i)
+    ∙ order-faults (fault_under r (total xs)) b (breaks (take d us) r) q (breaks x.uses r)
+    ∙ sym (
+    fault-with r (b || q) p all
+    ∙ ap (λ y. y || (b || q)) (
+    fault-join r (fixed 0 (total xs)) (join own x)
+    ∙ (λ i. fault-fixed r 0 (total xs) i || (fault-join r own x ∙ ap (λ y. breaks (take d us) r || y) under) i)
+    )
+    )
+    in (
+      level,
+      (
+        fault,
+        λ z.
+            let none = found ∙ (λ i. b || (breaks-at-zeros (take d us) r z i || (q || breaks-at-zeros x.uses r z i))) ∙ ap (λ y. b || y) (or-false q) in
+            λ i. (t.1.1 z ∙ sym (append-nil (total xs).faults) ∙ ap (λ fs. (total xs).faults ++ fs) (sym (put-has-no-fault (drop d us) xs))) i ++ fault_if (none i) p,
+      ),
+    )

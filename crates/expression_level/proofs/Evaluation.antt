@@ -1,9 +1,9 @@
 -- What weights come to under given levels of the parameters.
-use Rattle.std.proofs.Common.{◌≡◌, ℕ, zero, suc, ◌+◌, ◌≤◌, ◌<◌, Bool, true, false, ◌||◌, ◌&&◌, nat_lt, if◌then◌else◌, List, [], ◌∷◌, ◌++◌, map, take, drop, length, Option, Some, None, refl, sym, ap, ◌∙◌, arith, append_assoc, append-nil}
+use Rattle.std.proofs.Common.{◌≡◌, ℕ, zero, suc, Bool, true, false, ◌||◌, ◌&&◌, nat_lt, if◌then◌else◌, List, [], ◌∷◌, ◌++◌, map, Option, Some, None, refl, sym, ap, ◌∙◌, arith}
 use Rattle.tla_ast.specs.declared.place.Place.{Place}
 use Rattle.expression_level.specs.declared.weight.Use.{Use}
-use Rattle.expression_level.specs.Levels.{higher, greatest, raised, has_fault, fault_if}
-use Rattle.expression_level.specs.Weights.{Weight, counted, is_over, level_from, breaks, level_under, fault_under, stricter, both, all_uses, nothing, join, total, kept, fixed, with_fault, asked_plain, asked_raised, asked, capped_use, capped, raised_use, lifted, passed_limit, passed, argument, put, put_breaks}
+use Rattle.expression_level.specs.Levels.{higher, raised, has_fault, fault_if}
+use Rattle.expression_level.specs.Weights.{Weight, counted, is_over, level_from, breaks, level_under, fault_under, stricter, both, all_uses, join, kept, fixed, with_fault, asked_plain, asked_raised, asked, capped_use, capped, raised_use, lifted, passed_limit, passed, argument, put, put_breaks}
 
 -- ---- numbers and tests
 

@@ -1,5 +1,5 @@
 -- What is kept of a definition is what it has.
-use Rattle.std.proofs.Common.{◌≡◌, ◌≤◌, ◌<◌, ◌++◌, ◌+◌, ℕ, zero, suc, Bool, true, false, ◌||◌, nat_eq, if◌then◌else◌, List, [], ◌∷◌, take, length, get_or, Option, Some, None, refl, sym, ap, subst, ◌∙◌, arith}
+use Rattle.std.proofs.Common.{◌≡◌, ◌<◌, ◌++◌, ◌+◌, ℕ, zero, suc, Bool, true, false, nat_eq, if◌then◌else◌, List, [], ◌∷◌, take, length, get_or, Option, refl, sym, ap, subst, ◌∙◌, arith}
 use lib.ListN.{set}
 use Rattle.tla_ast.specs.declared.place.Place.{Place}
 use Rattle.tla_ast.specs.declared.tree.Decl.{Decl}
@@ -7,17 +7,16 @@ use Rattle.plain_syntax.specs.Plain.{Term}
 use Rattle.symbol_table.specs.Symbols.{symbol_at}
 use Rattle.expression_level.specs.Levels.{Levels, Applied, higher, told, level, constantly, bound, definition_level, declared_level}
 use Rattle.expression_level.specs.Levels as l
-use Rattle.expression_level.specs.Weights.{Weight, Known, Env, level_from, depth_of, function_of, padded, definition, with_parameters, weigh, breaks}
+use Rattle.expression_level.specs.Weights.{Known, depth_of, function_of, padded, definition, with_parameters, weigh}
 use Rattle.expression_level.specs.Weights.Known.{arguments, defined}
-use Rattle.expression_level.specs.Scope.{Names, names_of, declared_env, body_weight, weight_of}
+use Rattle.expression_level.specs.Scope.{names_of, declared_env, body_weight, weight_of}
 use Rattle.expression_level.specs.Store.{levels_of, AllClosed}
 use Rattle.expression_level.proofs.Evaluation.{higher-none}
-use Rattle.expression_level.proofs.Agreement.{Stands, Knows}
-use Rattle.expression_level.proofs.Linear.{KnowAll, Agree, agree-inside, stands, knows-definition, no-level}
+use Rattle.expression_level.proofs.Agreement.{Knows}
+use Rattle.expression_level.proofs.Linear.{Agree, agree-inside, stands, knows-definition, no-level}
 
 abbrev pub at_first : Known
 at_first = defined 0 0 [] false
-
 
 closed-at : (ks : List Known) (n : ℕ) → AllClosed ks → depth_of (get_or ks n arguments) ≡ 0
 closed-at [] n c = refl
@@ -31,8 +30,8 @@ known-definition : (m : Place → Option ℕ) (ks : List Known) → AllClosed ks
     → Knows [] (λ args. told (level m (l.with_parameters m (levels_of ks) ps args) 0 t)) (definition 0 (length ps) (weigh m (0 + length ps) (with_parameters m 0 (declared_env ks) ps) at_first t))
 known-definition m ks c ps t =
     knows-definition [] 0 (length ps) (λ args. level m (l.with_parameters m (levels_of ks) ps args) 0 t) (weigh m (0 + length ps) (with_parameters m 0 (declared_env ks) ps) at_first t) refl
-      (λ args. stands m ([] ++ padded (length ps) args) (0 + length ps) (l.with_parameters m (levels_of ks) ps args) (with_parameters m 0 (declared_env ks) ps) 0 at_first
-        (agree-inside m [] 0 (levels_of ks) (declared_env ks) 0 at_first ps args (agrees m ks c)) t)
+    (λ args. stands m ([] ++ padded (length ps) args) (0 + length ps) (l.with_parameters m (levels_of ks) ps args) (with_parameters m 0 (declared_env ks) ps) 0 at_first
+    (agree-inside m [] 0 (levels_of ks) (declared_env ks) 0 at_first ps args (agrees m ks c)) t)
 
 pub definition-is : (ss : List (Place × ℕ)) (ks : List Known) → AllClosed ks → (ps : List Decl) (t : Term)
     → function_of [] (definition 0 (length ps) (body_weight (names_of ss ks) 0 at_first ps t)) ≡ definition_level (symbol_at ss) (levels_of ks) ps t

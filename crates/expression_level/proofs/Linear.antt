@@ -1,5 +1,5 @@
 -- What names have under levels of more and more parameters, and that the weights of all expressions stand.
-use Rattle.std.proofs.Common.{◌≡◌, ℕ, zero, suc, ◌+◌, ◌≤◌, ◌<◌, Bool, true, false, ◌||◌, nat_lt, nat_eq, if◌then◌else◌, List, [], ◌∷◌, ◌++◌, map, take, drop, length, Option, Some, None, refl, sym, ap, subst, ◌∙◌, arith, append_assoc, append-nil, length-append, codes}
+use Rattle.std.proofs.Common.{◌≡◌, ℕ, zero, suc, ◌+◌, ◌≤◌, Bool, true, false, ◌||◌, nat_eq, if◌then◌else◌, List, [], ◌∷◌, ◌++◌, map, take, length, Option, Some, None, refl, sym, ap, subst, ◌∙◌, arith, append_assoc, append-nil, length-append, codes}
 use Rattle.std.proofs.lemmas.List.{take-append-le}
 use Rattle.tla_ast.specs.declared.place.Place.{Place}
 use Rattle.tla_ast.specs.declared.tree.Decl.{Decl}
@@ -18,7 +18,7 @@ use Rattle.expression_level.specs.Weights as w
 use Rattle.expression_level.specs.Weights.{Weight, Known, Env, counted, is_over, level_from, breaks, level_under, fault_under, depth_of, function_of, padded, unused, uses_of, parameter, definition, unlimited, result_so_far, asked_round, known}
 use Rattle.expression_level.specs.Weights.Known.{arguments, defined}
 use Rattle.expression_level.proofs.Evaluation.{higher-zero, higher-none, counted-none, over-nothing, level-fixed, fault-fixed}
-use Rattle.expression_level.proofs.Agreement.{Zeros, Stands, StandEach, Knows, stands-nothing, stands-beside, stands-fixed, stands-limited, stands-primed, stands-action, each-before, stands-overall, stands-at-name}
+use Rattle.expression_level.proofs.Agreement.{Zeros, Stands, StandEach, Knows, stands-nothing, stands-beside, stands-fixed, stands-limited, stands-primed, stands-action, each-before, stands-at-name}
 
 -- ---- what one number has
 
@@ -44,12 +44,12 @@ never-breaks (suc d) (l ∷ r) = never-breaks d r
 
 knows-parameter : (d : ℕ) (r : List ℕ) (l : ℕ) → length r ≡ d → Knows (r ++ l ∷ []) (constantly l) (parameter d)
 knows-parameter d r l e = (
-    (let h = length-append r (l ∷ []) in omega (arith, e, h)),
-    λ args i. (
-      sym (higher-zero (level_from (uses_of d) (take (suc d) (r ++ l ∷ []) ++ args)) ∙ level-of-parameter d r l args e) i,
-      sym (never-breaks d (take (suc d) (r ++ l ∷ []) ++ args)) i
-    )
-  )
+  (let h = length-append r (l ∷ []) in omega (arith, e, h)),
+  λ args i. (
+    sym (higher-zero (level_from (uses_of d) (take (suc d) (r ++ l ∷ []) ++ args)) ∙ level-of-parameter d r l args e) i,
+    sym (never-breaks d (take (suc d) (r ++ l ∷ []) ++ args)) i,
+  ),
+)
 
 level-padded : (us : List Use) (n : ℕ) → level_from us (padded n []) ≡ 0
 level-padded [] n = refl
@@ -107,12 +107,12 @@ cut-breaks (suc d) (x ∷ r) n (u ∷ us) args e =
 pub knows-definition : (r : List ℕ) (d n : ℕ) (f : List ℕ → Judged) (x : Weight) → length r ≡ d → ((args : List ℕ) → Stands (r ++ padded n args) (f args) x)
     → Knows r (λ args. told (f args)) (definition d n x)
 knows-definition r d n f x e s = (
-    omega (arith, e),
-    λ args i. (
-      ((s args).0 ∙ ap (higher x.least) (sym (cut-level d r n x.uses args e))) i,
-      ((s args).1.0 ∙ ap (λ b. has_fault x.faults || b) (sym (cut-breaks d r n x.uses args e))) i
-    )
-  )
+  omega (arith, e),
+  λ args i. (
+    ((s args).0 ∙ ap (higher x.least) (sym (cut-level d r n x.uses args e))) i,
+    ((s args).1.0 ∙ ap (λ b. has_fault x.faults || b) (sym (cut-breaks d r n x.uses args e))) i,
+  ),
+)
 
 level-unlimited : (us : List Use) (r : List ℕ) → level_from (map unlimited us) r ≡ level_from us r
 level-unlimited [] r = refl
@@ -133,12 +133,12 @@ own-level (suc d) (u ∷ us) (x ∷ r) args e = ap (higher (counted u x)) (own-l
 
 knows-result : (r : List ℕ) (d : ℕ) (j : Judged) (x : Weight) → length r ≡ d → Stands r j x → Knows r (constantly j.0) (result_so_far d x)
 knows-result r d j x e s = (
-    omega (arith, e),
-    λ args i. (
-      (s.0 ∙ ap (higher x.least) (sym (level-unlimited (take d x.uses) (take d r ++ args) ∙ own-level d x.uses r args e))) i,
-      sym (breaks-unlimited (take d x.uses) (take d r ++ args)) i
-    )
-  )
+  omega (arith, e),
+  λ args i. (
+    (s.0 ∙ ap (higher x.least) (sym (level-unlimited (take d x.uses) (take d r ++ args) ∙ own-level d x.uses r args e))) i,
+    sym (breaks-unlimited (take d x.uses) (take d r ++ args)) i,
+  ),
+)
 
 breaks-round : (d : ℕ) (us : List Use) (r : List ℕ) (n : ℕ) → length r ≡ d → breaks us (r ++ padded n []) ≡ breaks (take d us) r
 breaks-round zero us [] n e = breaks-padded us n
@@ -157,10 +157,9 @@ more-zeros (l ∷ r) n z = (z.0, more-zeros r n z.1)
 
 stands-round : (r : List ℕ) (d n : ℕ) (j : Judged) (x : Weight) → length r ≡ d → Stands (r ++ padded n []) j x → Stands r (0, j.1) (asked_round d x)
 stands-round r d n j x e s =
-    let own : Weight = record { least = 0; uses = take d x.uses; faults = x.faults } in
-    (
+    let own : Weight = record { least = 0; uses = take d x.uses; faults = x.faults } in (
       sym (level-fixed r 0 own),
-      (s.1.0 ∙ ap (λ b. has_fault x.faults || b) (breaks-round d x.uses r n e) ∙ sym (fault-fixed r 0 own), λ z. s.1.1 (more-zeros r n z))
+      (s.1.0 ∙ ap (λ b. has_fault x.faults || b) (breaks-round d x.uses r n e) ∙ sym (fault-fixed r 0 own), λ z. s.1.1 (more-zeros r n z)),
     )
 
 -- ---- what all numbers have
@@ -199,11 +198,11 @@ module _ (means : Place → Option ℕ) where
   knows-parameters [] args r d ls env e a = subst (λ s. KnowAll s ls env) (sym (append-nil r)) a
   knows-parameters (p ∷ ps) [] r d ls env e a =
       let rest = knows-parameters ps [] (r ++ 0 ∷ []) (suc d) (bind (means p.place) (constantly 0) ls) (bind (means p.place) (parameter d) env)
-        (let h = length-append r (0 ∷ []) in omega (arith, h, e)) (knows-one r d ls env p 0 e a) in
+      (let h = length-append r (0 ∷ []) in omega (arith, h, e)) (knows-one r d ls env p 0 e a) in
       subst (λ s. KnowAll s (l.with_parameters means ls (p ∷ ps) []) (w.with_parameters means d env (p ∷ ps))) (append_assoc r (0 ∷ []) (padded (length ps) [])) rest
   knows-parameters (p ∷ ps) (x ∷ args) r d ls env e a =
       let rest = knows-parameters ps args (r ++ x ∷ []) (suc d) (bind (means p.place) (constantly x) ls) (bind (means p.place) (parameter d) env)
-        (let h = length-append r (x ∷ []) in omega (arith, h, e)) (knows-one r d ls env p x e a) in
+      (let h = length-append r (x ∷ []) in omega (arith, h, e)) (knows-one r d ls env p x e a) in
       subst (λ s. KnowAll s (l.with_parameters means ls (p ∷ ps) (x ∷ args)) (w.with_parameters means d env (p ∷ ps))) (append_assoc r (x ∷ []) (padded (length ps) args)) rest
 
   -- ---- all expressions
@@ -224,8 +223,8 @@ module _ (means : Place → Option ℕ) where
   stands-prefix : (r : List ℕ) (o : List ℕ) (p : Place) (j : Judged) (x : Weight) → Stands r j x → Stands r (l.prefix_level o p j) (w.prefix_weight o p x)
   stands-prefix r o p j x s =
       chosen r (is_word o (codes "UNCHANGED")) _ _ _ _ (stands-fixed r 2 (l.limited 1 p j) (w.limited 1 p x) (stands-limited r 1 p j x s))
-        (chosen r (is_word o (codes "ENABLED")) _ _ _ _ (stands-fixed r 1 (l.limited 2 p j) (w.limited 2 p x) (stands-limited r 2 p j x s))
-          (chosen r (is_word o (codes "[]") || is_word o (codes "<>")) _ _ _ _ (stands-fixed r 3 j x s) s))
+      (chosen r (is_word o (codes "ENABLED")) _ _ _ _ (stands-fixed r 1 (l.limited 2 p j) (w.limited 2 p x) (stands-limited r 2 p j x s))
+      (chosen r (is_word o (codes "[]") || is_word o (codes "<>")) _ _ _ _ (stands-fixed r 3 j x s) s))
 
   -- one definition
   knows-next : (r : List ℕ) (d : ℕ) (ls : Levels) (env : Env) (a : ℕ) (k : Known) → Agree r d ls env a k → (ps : List Decl) (t : Term) (o : Option ℕ)
@@ -234,7 +233,7 @@ module _ (means : Place → Option ℕ) where
   knows-next r d ls env a k g ps t o s =
       let x = w.weigh means (d + length ps) (w.with_parameters means d env ps) k t in
       knows-bound r ls env o _ (definition d (length ps) x) g.1.0
-        (knows-definition r d (length ps) (λ args. l.level means (l.with_parameters means ls ps args) a t) x g.0 s)
+      (knows-definition r d (length ps) (λ args. l.level means (l.with_parameters means ls ps args) a t) x g.0 s)
 
   mutual
     pub stands : (r : List ℕ) (d : ℕ) (ls : Levels) (env : Env) (a : ℕ) (k : Known) → Agree r d ls env a k → (t : Term) → Stands r (l.level means ls a t) (w.weigh means d env k t)
@@ -293,7 +292,7 @@ module _ (means : Place → Option ℕ) where
         let u = stands-beside r j (l.keys means ls a ks) x (w.keys means d env k ks) s (stands-keys r d ls env a k g ks) in
         let h : Agree r d ls env i.0 (result_so_far d y) = (g.0, (g.1.0, knows-result r d i y g.0 u)) in
         stands-updates r d ls env a k g (l.beside i (l.level means ls i.0 t)) (w.join y (w.weigh means d env (result_so_far d y) t))
-          (stands-beside r i (l.level means ls i.0 t) y (w.weigh means d env (result_so_far d y) t) u (stands r d ls env i.0 (result_so_far d y) h t)) us
+        (stands-beside r i (l.level means ls i.0 t) y (w.weigh means d env (result_so_far d y) t) u (stands r d ls env i.0 (result_so_far d y) h t)) us
 
     stands-keys : (r : List ℕ) (d : ℕ) (ls : Levels) (env : Env) (a : ℕ) (k : Known) → Agree r d ls env a k → (ks : Keys) → Stands r (l.keys means ls a ks) (w.keys means d env k ks)
     stands-keys r d ls env a k g end_keys = stands-nothing r
@@ -306,7 +305,7 @@ module _ (means : Place → Option ℕ) where
     knows-definitions r d ls env a k g end_defs = g.1.0
     knows-definitions r d ls env a k g (def n ps t p ds) =
         let n = knows-next r d ls env a k g ps t (means p)
-          (λ args. stands (r ++ padded (length ps) args) (d + length ps) (l.with_parameters means ls ps args) (w.with_parameters means d env ps) a k (agree-inside r d ls env a k ps args g) t) in
+        (λ args. stands (r ++ padded (length ps) args) (d + length ps) (l.with_parameters means ls ps args) (w.with_parameters means d env ps) a k (agree-inside r d ls env a k ps args g) t) in
         knows-definitions r d _ _ a k (g.0, (n, g.1.1)) ds
 
     stands-bodies : (r : List ℕ) (d : ℕ) (ls : Levels) (env : Env) (a : ℕ) (k : Known) → Agree r d ls env a k → (ds : Defs)
@@ -319,8 +318,8 @@ module _ (means : Place → Option ℕ) where
         let ms = bind (means p) f ls in
         let inner = bind (means p) (definition d (length ps) x) env in
         let first = stands-round r d (length ps) j x g.0
-          (stands (r ++ padded (length ps) []) (d + length ps) (l.with_parameters means ls ps []) (w.with_parameters means d env ps) a k (agree-inside r d ls env a k ps [] g) t) in
+        (stands (r ++ padded (length ps) []) (d + length ps) (l.with_parameters means ls ps []) (w.with_parameters means d env ps) a k (agree-inside r d ls env a k ps [] g) t) in
         let n = knows-next r d ls env a k g ps t (means p)
-          (λ args. stands (r ++ padded (length ps) args) (d + length ps) (l.with_parameters means ls ps args) (w.with_parameters means d env ps) a k (agree-inside r d ls env a k ps args g) t) in
+        (λ args. stands (r ++ padded (length ps) args) (d + length ps) (l.with_parameters means ls ps args) (w.with_parameters means d env ps) a k (agree-inside r d ls env a k ps args g) t) in
         stands-beside r (0, j.1) (0, l.bodies means ms a ds) (asked_round d x) (w.bodies means d inner k ds) first
-          (stands-bodies r d ms inner a k (g.0, (n, g.1.1)) ds)
+        (stands-bodies r d ms inner a k (g.0, (n, g.1.1)) ds)

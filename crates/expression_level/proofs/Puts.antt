@@ -1,5 +1,5 @@
 -- Loops over arguments, one step after another.
-use Rattle.std.proofs.Common.{◌≡◌, ℕ, zero, suc, ◌+◌, ◌-◌, ◌≤◌, ◌<◌, Bool, true, false, ◌||◌, List, [], ◌∷◌, ◌++◌, drop, take, length, get_or, replicate, min, refl, sym, ap, ◌∙◌, arith, drop-cons, add-one}
+use Rattle.std.proofs.Common.{◌≡◌, ℕ, zero, suc, ◌+◌, ◌≤◌, ◌<◌, false, ◌||◌, List, [], ◌∷◌, ◌++◌, drop, length, get_or, replicate, min, refl, sym, ap, ◌∙◌, arith, drop-cons, add-one}
 use Rattle.expression_level.specs.declared.weight.Use.{Use}
 use Rattle.expression_level.specs.Weights.{Weight, is_over, unused, as_it_is, uses_of, nothing, join, total, argument, put, put_breaks}
 use Rattle.expression_level.proofs.Uses.{join-assoc, nothing-joined, joined-nothing}

@@ -1,5 +1,5 @@
 -- Loops over uses, one step after another.
-use Rattle.std.proofs.Common.{◌≡◌, ℕ, zero, suc, ◌+◌, ◌≤◌, ◌<◌, Bool, ◌||◌, nat_lt, if◌then◌else◌, Option, Some, None, List, [], ◌∷◌, ◌++◌, append_assoc, append-nil, map, take, drop, length, get_or, refl, sym, ap, subst, ◌∙◌, arith, add-one}
+use Rattle.std.proofs.Common.{◌≡◌, ℕ, zero, suc, ◌+◌, ◌≤◌, ◌<◌, nat_lt, if◌then◌else◌, Option, Some, None, List, [], ◌∷◌, ◌++◌, append_assoc, append-nil, map, take, drop, length, get_or, refl, sym, ap, subst, ◌∙◌, arith, add-one}
 use lib.ListN.{set}
 use Rattle.std.proofs.lemmas.List.{length-take}
 use Rattle.expression_level.specs.declared.weight.Use.{Use}
@@ -86,7 +86,9 @@ uses-assoc (u ∷ us) (v ∷ vs) (w ∷ ws) = λ i. both-assoc u v w i ∷ uses-
 
 pub join-assoc : (x y z : Weight) → join (join x y) z ≡ join x (join y z)
 join-assoc x y z i = record {
-  least = higher-assoc x.least y.least z.least i; uses = uses-assoc x.uses y.uses z.uses i; faults = append_assoc x.faults y.faults z.faults i
+  least = higher-assoc x.least y.least z.least i;
+  uses = uses-assoc x.uses y.uses z.uses i;
+  faults = append_assoc x.faults y.faults z.faults i;
 }
 
 pub nothing-joined : (x : Weight) → join nothing x ≡ x

@@ -22,11 +22,11 @@ use Rattle.plain_syntax.specs.Plain.{Text, Term, Terms, Keys, Groups, Defs}
 use Rattle.plain_syntax.specs.Plain.Term.{term}
 use Rattle.plain_syntax.specs.Plain.Terms.{none, part}
 use Rattle.plain_syntax.specs.Plain.{Shape as s}
-use Rattle.plain_syntax.specs.Syntax.{Held, shape_of, key_of, def_of, group_of, node_of, path_of, term_of, terms_of, keys_of, key_keys, each_key, groups_of, each_group, defs_of, each_def, with_domain, set_of, except_of, updates_of}
+use Rattle.plain_syntax.specs.Syntax.{Held, shape_of, key_of, def_of, group_of, node_of, path_of, term_of, terms_of, keys_of, key_keys, each_key, groups_of, each_group, each_def, with_domain, set_of, except_of}
 use Rattle.plain_syntax.specs.Order.{order, orders, joined_by, joins}
 use Rattle.plain_syntax.proofs.Forms.{held, by-form, parts_in, is-name, is-call, is-box, is-angle, is-at, is-except, is-quantifier, is-choice, is-local, is-path, is-key, is-field-key, is-group, is-def}
-use Rattle.expression_level.specs.Weights.{Weight, Known, weigh_each, join, total, nothing, fixed, at_name, form_weight, result_so_far, asked_round}
-use Rattle.expression_level.specs.Scope.{Names, at, weight_of, weights_of, turned, count, ruled, by_form, acted, updates_on, excepted, sets_of, keys_on, bodies_of, domain_weight, with_definition, with_definitions, body_weight, means_in, env_of}
+use Rattle.expression_level.specs.Weights.{Weight, Known, weigh_each, join, total, nothing, at_name, form_weight, result_so_far, asked_round}
+use Rattle.expression_level.specs.Scope.{Names, at, weight_of, weights_of, turned, count, ruled, by_form, acted, updates_on, excepted, sets_of, keys_on, bodies_of, domain_weight, with_definition, with_definitions, body_weight}
 use Rattle.expression_level.proofs.Uses.{join-assoc, nothing-joined, joined-nothing}
 use Rattle.expression_level.proofs.Locals.{bodies-next, same-with-definitions, env-with-definitions}
 use Rattle.symbol_table.specs.Symbols.{symbol_at}
@@ -290,7 +290,7 @@ module _ (c : Names) (d : ℕ) (k : Known) where
   weighs-let n ds e =
       ap (weight_of c d k) (is-local n ds e)
       ∙ ap (λ ws. join (bodies_of c d k (each_def ds)) (total ws))
-        (sym (λ i. weigh_each (symbol_at (same-with-definitions d k (each_def ds) c i)) d (env-with-definitions d k (each_def ds) c i) k (parts_in n)))
+      (sym (λ i. weigh_each (symbol_at (same-with-definitions d k (each_def ds) c i)) d (env-with-definitions d k (each_def ds) c i) k (parts_in n)))
 
   -- ---- all other forms
 

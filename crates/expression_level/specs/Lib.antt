@@ -2,4 +2,5 @@ pub mod Levels
 pub mod Primed
 pub mod Weights
 pub mod Store
+pub mod Occurrence
 pub mod Scope

@@ -1,6 +1,6 @@
 -- Which parameters a definition primes: those that stand in its text under a prime, in what UNCHANGED or a subscript of an action
 -- is applied to, or in an argument that the applied definition primes.
-use Rattle.std.specs.Prelude.{ℕ, Bool, true, false, ◌||◌, ◌&&◌, nat_eq, if◌then◌else◌, List, [], ◌∷◌, map, Option, Some, None, codes}
+use Rattle.std.specs.Prelude.{ℕ, Bool, true, false, ◌||◌, ◌&&◌, nat_eq, if◌then◌else◌, List, [], ◌∷◌, ◌++◌, map, Option, Some, None, codes}
 use Rattle.std.specs.List.{list_any}
 use Rattle.tla_ast.specs.declared.place.Place.{Place}
 use Rattle.tla_ast.specs.declared.tree.Decl.{Decl}
@@ -31,7 +31,7 @@ other_flags (b ∷ bs) = bs
 
 -- the numbers with one more, where it holds
 abbrev pub added : Bool → Option ℕ → List ℕ → List ℕ
-added true (Some n) ns = n ∷ ns
+added true (Some n) ns = ns ++ n ∷ []
 added true None ns = ns
 added false m ns = ns
 

@@ -1,5 +1,5 @@
 -- The names that are known at a place of an expression: what is declared, and before it the parameters and definitions round the place.
-use Rattle.std.specs.Prelude.{◌≡◌, ℕ, suc, ◌+◌, ◌-◌, Bool, true, false, List, [], ◌∷◌, ◌++◌, map, take, drop, length, Option, Some, None, get_or, nat_eq, if◌then◌else◌}
+use Rattle.std.specs.Prelude.{◌≡◌, ℕ, suc, ◌+◌, ◌-◌, true, false, List, [], ◌∷◌, ◌++◌, map, take, drop, length, Option, Some, None, get_or, nat_eq, if◌then◌else◌}
 use Rattle.std.specs.Borrow.{Bor}
 use Rattle.tla_ast.specs.declared.place.Place.{Place}
 use Rattle.tla_ast.specs.declared.tree.Decl.{Decl}
@@ -111,9 +111,9 @@ count (part t ts) = suc (count ts)
 -- an operator takes the weights of its operands from a stack, and puts its own there; any other expression puts its own there
 abbrev pub turned : Names → ℕ → Known → List Weight → Term → List Weight
 turned s d k stack (term f ts p) = elim (is_operator f) [
-    | true ↦ take (length stack - count ts) stack ++ form_weight f p (total (drop (length stack - count ts) stack)) ∷ []
-    | false ↦ stack ++ weight_of s d k (term f ts p) ∷ []
-  ]
+  | true ↦ take (length stack - count ts) stack ++ form_weight f p (total (drop (length stack - count ts) stack)) ∷ []
+  | false ↦ stack ++ weight_of s d k (term f ts p) ∷ []
+]
 
 -- the keys and the values of updates
 abbrev pub updates_on : Names → ℕ → Known → List Path → List Node → Weight → Weight

@@ -1,18 +1,13 @@
 -- What the code keeps of names, as levels and weights speak of it.
-use Rattle.std.specs.Prelude.{◌≡◌, ℕ, suc, Bool, List, [], ◌∷◌, ◌++◌, take, Option, Some, None, get_or}
+use Rattle.std.specs.Prelude.{◌≡◌, ℕ, Bool, List, [], ◌∷◌, Option, Some, None, get_or}
 use Rattle.std.specs.Borrow.{Bor}
-use Rattle.tla_ast.specs.declared.place.Place.{Place}
-use Rattle.tla_ast.specs.declared.tree.Decl.{Decl}
-use Rattle.tla_ast.specs.declared.tree.Node.{Node}
-use Rattle.plain_syntax.specs.Syntax.{term_of, terms_of}
 use Rattle.symbol_table.specs.declared.entry.Entry.{Entry}
-use Rattle.symbol_table.specs.Symbols.{symbol_at}
 use Rattle.symbol_table.specs.Scoped.{entry_of}
 use Rattle.expression_level.specs.declared.weight.Use.{Use}
 use Rattle.expression_level.specs.declared.weight.Change.{Change}
 use Rattle.expression_level.specs.declared.weight.Change.TheVariants as change
-use Rattle.expression_level.specs.Levels.{Levels, bound}
-use Rattle.expression_level.specs.Weights.{Known, Env, depth_of, function_of, kept, capped_use, raised_use, unlimited, parameter}
+use Rattle.expression_level.specs.Levels.{Levels}
+use Rattle.expression_level.specs.Weights.{Known, depth_of, function_of, kept, capped_use, raised_use, unlimited}
 use Rattle.expression_level.specs.Weights.Known.{arguments, defined}
 use Rattle.expression_level.specs.declared.known.Definition.{Definition}
 

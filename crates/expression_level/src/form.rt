@@ -11,10 +11,14 @@ use core_expr::Memory;
 use std::alloc::Global;
 use tla_ast::{Form, Place};
 
-/// The prefix operators that change a level.
-const UNCHANGED: &[u8] = b"UNCHANGED";
+/// The prefix operator that primes what it is applied to.
+pub const UNCHANGED: &[u8] = b"UNCHANGED";
+
+/// The other prefix operators that change a level.
 const ENABLED: &[u8] = b"ENABLED";
+
 const ALWAYS: &[u8] = b"[]";
+
 const EVENTUALLY: &[u8] = b"<>";
 
 /// The infix operator that does.
@@ -82,7 +86,13 @@ pub fn act(mut action: Weight, mut subscript: Weight, place: Place) -> Result<We
 }
 
 /// An operator over the last of the weights on a stack, which it takes.
-pub fn operate(alloc: Global, stack: &mut Vec<Weight>, form: &Form, place: Place, operands: usize) -> Result<Weight, Memory>
+pub fn operate(
+    alloc: Global,
+    stack: &mut Vec<Weight>,
+    form: &Form,
+    place: Place,
+    operands: usize,
+) -> Result<Weight, Memory>
     ensures taken { OnOk result (stack.new.items ≡ take (length stack.old.items - operands) stack.old.items) }
     ensures weight { IfOk result (λ weight. weight ≡ spec.by_form form.now place
         (weights.total (drop (length stack.old.items - operands) stack.old.items))) }

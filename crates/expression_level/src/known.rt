@@ -129,7 +129,12 @@ impl Known {
 
 /// A definition among so many parameters, which are so many with its own, whose body weighs this; and what the body asks of the
 /// parameters round it.
-pub fn defined(alloc: Global, depth: usize, inner: usize, body: Weight) -> Result<(Known, Weight), Memory>
+pub fn defined(
+    alloc: Global,
+    depth: usize,
+    inner: usize,
+    body: Weight,
+) -> Result<(Known, Weight), Memory>
     ensures known { IfOk result (λ made. made.0
         ≡ seen.defined depth body.least (take inner body.uses) (has_fault body.faults)) }
     ensures asked { IfOk result (λ made. made.1 ≡ spec.asked_round depth body) }
@@ -230,7 +235,12 @@ impl Definition {
 }
 
 /// A name at a place, with arguments that weigh so; one that is not known has the level of its arguments.
-pub fn at_name(alloc: Global, known: Option<&Known>, args: Vec<Weight>, place: Place) -> Result<Weight, Memory>
+pub fn at_name(
+    alloc: Global,
+    known: Option<&Known>,
+    args: Vec<Weight>,
+    place: Place,
+) -> Result<Weight, Memory>
     ensures { IfOk result (λ weight. weight ≡ spec.at_name place (found known.entry) args.items) }
 {
     match known {

@@ -136,7 +136,13 @@ fn keep(known: &mut Vec<Known>, number: u64, value: Known) -> Result<(), Memory>
 }
 
 /// What a definition has, and the level of its body where each parameter has level 0.
-fn body_known(alloc: Global, known: &[Known], params: &[Decl], body: &Node, symbols: &Symbols) -> Result<(Known, u64), Memory>
+fn body_known(
+    alloc: Global,
+    known: &[Known],
+    params: &[Decl],
+    body: &Node,
+    symbols: &Symbols,
+) -> Result<(Known, u64), Memory>
     ensures closed { IfOk result (λ made. depth_of made.0 ≡ 0) }
     ensures known { AllClosed known.now → IfOk result (λ made. function_of [] made.0
         ≡ spec.definition_level (symbol_at symbols.now) (levels_of known.now) params.now (term_of body.now)) }

@@ -9,7 +9,9 @@ mod form;
 mod known;
 mod levels;
 mod names;
+mod occurrence;
 mod primed;
+mod query;
 mod walk;
 mod weight;
 

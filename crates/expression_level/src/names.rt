@@ -98,7 +98,12 @@ impl<'a> Names<'a> {
     }
 
     /// The parameters of a definition, which stand for themselves, behind so many others. Answers how many there are then.
-    pub fn bind_parameters(&mut self, alloc: Global, depth: usize, params: &[Decl]) -> Result<usize, Memory>
+    pub fn bind_parameters(
+        &mut self,
+        alloc: Global,
+        depth: usize,
+        params: &[Decl],
+    ) -> Result<usize, Memory>
         ensures bound { OnOk result (self.new ≡ spec.with_parameters depth params.now self.old) }
         ensures depth { IfOk result (λ inner. inner ≡ depth + length params.now) }
     {

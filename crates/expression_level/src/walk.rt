@@ -20,7 +20,13 @@ use tla_ast::{Def, Form, Group, Key, Node, Path};
 
 /// The weight of an expression among so many parameters, where `@` stands for what is known. Operators are met in a loop.
 #[cycle(weigh)]
-pub fn weigh(alloc: Global, names: &mut Names<'_>, depth: usize, at: &Known, node: &Node) -> Result<Weight, Memory>
+pub fn weigh(
+    alloc: Global,
+    names: &mut Names<'_>,
+    depth: usize,
+    at: &Known,
+    node: &Node,
+) -> Result<Weight, Memory>
     ensures same { OnOk result (names.new ≡ names.old) }
     ensures weight { IfOk result (λ weight. weight ≡ spec.weight_of names.old depth at.now (term_of node.now)) }
 {
@@ -37,7 +43,14 @@ pub fn weigh(alloc: Global, names: &mut Names<'_>, depth: usize, at: &Known, nod
 
 /// Puts the weight of a node on a stack, from which an operator takes those of its operands.
 #[cycle(weigh)]
-fn turn(alloc: Global, names: &mut Names<'_>, depth: usize, at: &Known, node: &Node, stack: &mut Vec<Weight>) -> Result<(), Memory>
+fn turn(
+    alloc: Global,
+    names: &mut Names<'_>,
+    depth: usize,
+    at: &Known,
+    node: &Node,
+    stack: &mut Vec<Weight>,
+) -> Result<(), Memory>
     ensures same { OnOk result (names.new ≡ names.old) }
     ensures turned { OnOk result (stack.new.items
         ≡ spec.turned names.old depth at.now stack.old.items (term_of node.now)) }
@@ -54,7 +67,13 @@ fn turn(alloc: Global, names: &mut Names<'_>, depth: usize, at: &Known, node: &N
 
 /// The weight of an expression that is no operator over others.
 #[cycle(weigh)]
-fn leaf(alloc: Global, names: &mut Names<'_>, depth: usize, at: &Known, node: &Node) -> Result<Weight, Memory>
+fn leaf(
+    alloc: Global,
+    names: &mut Names<'_>,
+    depth: usize,
+    at: &Known,
+    node: &Node,
+) -> Result<Weight, Memory>
     ensures same { OnOk result (names.new ≡ names.old) }
     ensures weight { IfOk result (λ weight. weight ≡ spec.weight_of names.old depth at.now (term_of node.now)) }
 {
@@ -94,7 +113,13 @@ fn leaf(alloc: Global, names: &mut Names<'_>, depth: usize, at: &Known, node: &N
 
 /// Several expressions, one after another.
 #[cycle(weigh)]
-fn each(alloc: Global, names: &mut Names<'_>, depth: usize, at: &Known, nodes: &[Node]) -> Result<Vec<Weight>, Memory>
+fn each(
+    alloc: Global,
+    names: &mut Names<'_>,
+    depth: usize,
+    at: &Known,
+    nodes: &[Node],
+) -> Result<Vec<Weight>, Memory>
     ensures same { OnOk result (names.new ≡ names.old) }
     ensures weights { IfOk result (λ each. each.items
         ≡ spec.weights_of names.old depth at.now (terms_of (map term_of nodes.now))) }
@@ -109,11 +134,17 @@ fn each(alloc: Global, names: &mut Names<'_>, depth: usize, at: &Known, nodes: &
 
 /// A name with its arguments.
 #[cycle(weigh)]
-fn name(alloc: Global, names: &mut Names<'_>, depth: usize, at: &Known, node: &Node) -> Result<Weight, Memory>
+fn name(
+    alloc: Global,
+    names: &mut Names<'_>,
+    depth: usize,
+    at: &Known,
+    node: &Node,
+) -> Result<Weight, Memory>
     ensures same { OnOk result (names.new ≡ names.old) }
     ensures weight { IfOk result (λ weight. weight
         ≡ weights.at_name (out-Node node.now).place (spec.at names.old (out-Node node.now).place)
-          (spec.weights_of names.old depth at.now (terms_of (map term_of (out-Node node.now).parts)))) }
+        (spec.weights_of names.old depth at.now (terms_of (map term_of (out-Node node.now).parts)))) }
 {
     let args = each(alloc, names, depth, at, node.parts.as_slice())?;
     at_name(alloc, names.at(node.place), args, node.place)
@@ -121,7 +152,13 @@ fn name(alloc: Global, names: &mut Names<'_>, depth: usize, at: &Known, node: &N
 
 /// An action with its subscript.
 #[cycle(weigh)]
-fn action(alloc: Global, names: &mut Names<'_>, depth: usize, at: &Known, node: &Node) -> Result<Weight, Memory>
+fn action(
+    alloc: Global,
+    names: &mut Names<'_>,
+    depth: usize,
+    at: &Known,
+    node: &Node,
+) -> Result<Weight, Memory>
     ensures same { OnOk result (names.new ≡ names.old) }
     ensures weight { IfOk result (λ weight. weight ≡ spec.acted names.old depth at.now (out-Node node.now).place
         (terms_of (map term_of (out-Node node.now).parts))) }
@@ -139,7 +176,13 @@ fn action(alloc: Global, names: &mut Names<'_>, depth: usize, at: &Known, node: 
 
 /// The set of a group of bounds.
 #[cycle(weigh)]
-fn domain(alloc: Global, names: &mut Names<'_>, depth: usize, at: &Known, group: &Group) -> Result<Weight, Memory>
+fn domain(
+    alloc: Global,
+    names: &mut Names<'_>,
+    depth: usize,
+    at: &Known,
+    group: &Group,
+) -> Result<Weight, Memory>
     ensures same { OnOk result (names.new ≡ names.old) }
     ensures weight { IfOk result (λ weight. weight
         ≡ spec.domain_weight names.old depth at.now (out-Group group.now).domain) }
@@ -152,7 +195,13 @@ fn domain(alloc: Global, names: &mut Names<'_>, depth: usize, at: &Known, group:
 
 /// The sets of bounds.
 #[cycle(weigh)]
-fn sets(alloc: Global, names: &mut Names<'_>, depth: usize, at: &Known, groups: &[Group]) -> Result<Weight, Memory>
+fn sets(
+    alloc: Global,
+    names: &mut Names<'_>,
+    depth: usize,
+    at: &Known,
+    groups: &[Group],
+) -> Result<Weight, Memory>
     ensures same { OnOk result (names.new ≡ names.old) }
     ensures weight { IfOk result (λ weight. weight ≡ spec.sets_of names.old depth at.now (each_group groups.now)) }
 {
@@ -166,7 +215,14 @@ fn sets(alloc: Global, names: &mut Names<'_>, depth: usize, at: &Known, groups: 
 
 /// The parts of a node, behind what stands before them.
 #[cycle(weigh)]
-fn behind(alloc: Global, names: &mut Names<'_>, depth: usize, at: &Known, before: Weight, node: &Node) -> Result<Weight, Memory>
+fn behind(
+    alloc: Global,
+    names: &mut Names<'_>,
+    depth: usize,
+    at: &Known,
+    before: Weight,
+    node: &Node,
+) -> Result<Weight, Memory>
     ensures same { OnOk result (names.new ≡ names.old) }
     ensures weight { IfOk result (λ weight. weight ≡ weights.join before
         (weights.total (spec.weights_of names.old depth at.now (terms_of (map term_of (out-Node node.now).parts))))) }
@@ -179,7 +235,13 @@ fn behind(alloc: Global, names: &mut Names<'_>, depth: usize, at: &Known, before
 
 /// A key of an update.
 #[cycle(weigh)]
-fn key(alloc: Global, names: &mut Names<'_>, depth: usize, at: &Known, key: &Key) -> Result<Weight, Memory>
+fn key(
+    alloc: Global,
+    names: &mut Names<'_>,
+    depth: usize,
+    at: &Known,
+    key: &Key,
+) -> Result<Weight, Memory>
     ensures same { OnOk result (names.new ≡ names.old) }
     ensures weight { IfOk result (λ weight. weight ≡ spec.keys_on names.old depth at.now (each_key (key.now ∷ []))) }
 {
@@ -194,7 +256,13 @@ fn key(alloc: Global, names: &mut Names<'_>, depth: usize, at: &Known, key: &Key
 
 /// The keys of an update.
 #[cycle(weigh)]
-fn keys(alloc: Global, names: &mut Names<'_>, depth: usize, at: &Known, path: &Path) -> Result<Weight, Memory>
+fn keys(
+    alloc: Global,
+    names: &mut Names<'_>,
+    depth: usize,
+    at: &Known,
+    path: &Path,
+) -> Result<Weight, Memory>
     ensures same { OnOk result (names.new ≡ names.old) }
     ensures weight { IfOk result (λ weight. weight
         ≡ spec.keys_on names.old depth at.now (each_key (out-Path path.now).keys)) }
@@ -209,7 +277,13 @@ fn keys(alloc: Global, names: &mut Names<'_>, depth: usize, at: &Known, path: &P
 
 /// An EXCEPT: the function and the updates.
 #[cycle(weigh)]
-fn except(alloc: Global, names: &mut Names<'_>, depth: usize, at: &Known, node: &Node) -> Result<Weight, Memory>
+fn except(
+    alloc: Global,
+    names: &mut Names<'_>,
+    depth: usize,
+    at: &Known,
+    node: &Node,
+) -> Result<Weight, Memory>
     ensures same { OnOk result (names.new ≡ names.old) }
     ensures weight { spec.IsExcept node.now → IfOk result (λ weight. weight
         ≡ spec.weight_of names.old depth at.now (term_of node.now)) }
@@ -238,7 +312,13 @@ fn except(alloc: Global, names: &mut Names<'_>, depth: usize, at: &Known, node: 
 
 /// A definition of a LET, which is known from then on. Answers what its body asks of the parameters round it.
 #[cycle(weigh)]
-fn definition(alloc: Global, names: &mut Names<'_>, depth: usize, at: &Known, def: &Def) -> Result<Weight, Memory>
+fn definition(
+    alloc: Global,
+    names: &mut Names<'_>,
+    depth: usize,
+    at: &Known,
+    def: &Def,
+) -> Result<Weight, Memory>
     ensures known { OnOk result (names.new ≡ spec.with_definition depth at.now (out-Def def.now).params
         (term_of (out-Def def.now).body) (out-Def def.now).place names.old) }
     ensures weight { IfOk result (λ weight. weight ≡ weights.asked_round depth
@@ -255,7 +335,13 @@ fn definition(alloc: Global, names: &mut Names<'_>, depth: usize, at: &Known, de
 
 /// The definitions of a LET.
 #[cycle(weigh)]
-fn definitions(alloc: Global, names: &mut Names<'_>, depth: usize, at: &Known, defs: &[Def]) -> Result<Weight, Memory>
+fn definitions(
+    alloc: Global,
+    names: &mut Names<'_>,
+    depth: usize,
+    at: &Known,
+    defs: &[Def],
+) -> Result<Weight, Memory>
     ensures known { OnOk result (names.new ≡ spec.with_definitions depth at.now (each_def defs.now) names.old) }
     ensures weight { IfOk result (λ weight. weight ≡ spec.bodies_of names.old depth at.now (each_def defs.now)) }
 {

@@ -83,7 +83,11 @@ impl Use {
         ensures { result ≡ spec.asked limit self }
     {
         let plain = if self.plain { Some(limit) } else { None };
-        let lifted = if self.raised && limit < 2 { Some(0) } else { None };
+        let lifted = if self.raised && limit < 2 {
+            Some(0)
+        } else {
+            None
+        };
         stricter(plain, lifted)
     }
 

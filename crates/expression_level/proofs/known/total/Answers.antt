@@ -1,5 +1,4 @@
-use Rattle.std.proofs.Common.{rules, sym}
-use Rattle.expression_level.proofs.Puts.{total-next, total-ends, total-starts}
+use Rattle.expression_level.proofs.Puts.{total-next, total-ends}
 use Rattle.expression_level.proofs.known.total.Goals as goal
 
 pub loop-weight-preserved : goal.loop-weight-preserved

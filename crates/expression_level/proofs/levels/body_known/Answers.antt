@@ -1,4 +1,4 @@
-use Rattle.std.proofs.Common.{◌+◌, [], take, length, ap, ◌∙◌}
+use Rattle.std.proofs.Common.{[], take, ap, ◌∙◌}
 use Rattle.plain_syntax.specs.Syntax.{term_of}
 use Rattle.expression_level.specs.Levels.{has_fault}
 use Rattle.expression_level.specs.Weights.{function_of}

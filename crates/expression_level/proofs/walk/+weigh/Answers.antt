@@ -5,9 +5,9 @@ use Rattle.tla_ast.specs.declared.tree.Group.{out-Group}
 use Rattle.tla_ast.specs.declared.tree.Path.{out-Path}
 use Rattle.plain_syntax.specs.Syntax.{term_of, terms_of, each_group, each_key, each_def}
 use Rattle.expression_level.specs.Levels.{has_fault}
-use Rattle.expression_level.specs.Weights.{at_name, join, total, action_weight, asked_round, definition, result_so_far}
+use Rattle.expression_level.specs.Weights.{at_name, join, total, action_weight, asked_round}
 use Rattle.expression_level.specs.Weights.Known.{defined}
-use Rattle.expression_level.specs.Scope.{turned, weight_of, weights_of, sets_of, keys_on, bodies_of, updates_on, domain_weight, by_form, acted, left, with_name, with_parameters, with_definitions, body_weight}
+use Rattle.expression_level.specs.Scope.{turned, weight_of, weights_of, sets_of, keys_on, bodies_of, updates_on, domain_weight, by_form, acted, left, with_name, with_parameters, with_definitions}
 use Rattle.expression_level.proofs.Uses.{joined-nothing}
 use Rattle.expression_level.proofs.Locals.{definitions-left, parameters-left, weigh-with-parameters}
 use Rattle.expression_level.proofs.Walks.{in-order, turns-operator, turns-leaf, turn-next, weighs-name, weighs-call, weighs-box, weighs-angle, weighs-at, weighs-quant, weighs-choose, weighs-let, weighs-plain, sets-next, keys-next, weighs-key, weighs-field-key, each-next, updates-next, no-more-values, except-begins, except-empty, bodies-step, known-step, next-one, all-past, last-one, because, in-any-case}
@@ -19,9 +19,9 @@ weigh-loop-next-init t c =
     record {
       same = refl;
       order =
-        (λ i. fold (turned n c.args.depth c.args.at.now) (c.new-stack.ensures.items i) (map (λ m. term_of m.now) (c.as_slice-next-items.ensures.value i)))
-        ∙ ap (fold (turned n c.args.depth c.args.at.now) []) c.in_ok-nodes.ensures.ordered
-        ∙ in-order n c.args.depth c.args.at.now (term_of c.args.node.now) [];
+          (λ i. fold (turned n c.args.depth c.args.at.now) (c.new-stack.ensures.items i) (map (λ m. term_of m.now) (c.as_slice-next-items.ensures.value i)))
+          ∙ ap (fold (turned n c.args.depth c.args.at.now) []) c.in_ok-nodes.ensures.ordered
+          ∙ in-order n c.args.depth c.args.at.now (term_of c.args.node.now) [];
     }
 
 pub weigh-turn-requires : goal.weigh-turn-requires
@@ -34,10 +34,10 @@ weigh-turn-requires t c =
 
 pub weigh-loop-next-preserved : goal.weigh-loop-next-preserved
 weigh-loop-next-preserved t c = record {
-    same = c.in_ok-turn.ensures.same ∙ c.loop-next.invariant.same;
-    order = turn-next c.args.names.now c.args.depth c.args.at.now _ c.loop-next.stack.items c.turn.new.stack.items c.as_slice-next-items.result.now c.loop-next.next-index c.next-item.result c.loop-next.names
+  same = c.in_ok-turn.ensures.same ∙ c.loop-next.invariant.same;
+  order = turn-next c.args.names.now c.args.depth c.args.at.now _ c.loop-next.stack.items c.turn.new.stack.items c.as_slice-next-items.result.now c.loop-next.next-index c.next-item.result c.loop-next.names
       c.loop-next.invariant.order c.loop-next-test.true c.next-item.is c.loop-next.invariant.same c.in_ok-turn.ensures.turned;
-  }
+}
 
 pub weigh-returns-in-Some : goal.weigh-returns-in-Some
 weigh-returns-in-Some t c =
@@ -45,9 +45,9 @@ weigh-returns-in-Some t c =
     record {
       same = c.loop-next.invariant.same;
       weight = last-one _ c.in-Some.weight _
-        (sym c.in-Some.ensures.items
-        ∙ sym (ap (λ l. fold (turned n c.args.depth c.args.at.now) c.loop-next.stack.items (map (λ m. term_of m.now) l)) (all-past c.as_slice-next-items.result.now c.loop-next.next-index c.loop-next-test.false))
-        ∙ c.loop-next.invariant.order);
+          (sym c.in-Some.ensures.items
+          ∙ sym (ap (λ l. fold (turned n c.args.depth c.args.at.now) c.loop-next.stack.items (map (λ m. term_of m.now) l)) (all-past c.as_slice-next-items.result.now c.loop-next.next-index c.loop-next-test.false))
+          ∙ c.loop-next.invariant.order);
     }
 
 pub turn-returns-clause-turned : goal.turn-returns-clause-turned
@@ -57,7 +57,7 @@ turn-returns-clause-turned t c =
 pub turn-returns-then-is_operator-clause-turned : goal.turn-returns-then-is_operator-clause-turned
 turn-returns-then-is_operator-clause-turned t c =
     turns-operator c.args.names.now c.args.depth c.args.at.now c.args.node.now c.args.stack.now.items c.operate.new.stack.items _ c.len.result c.in_ok-weight.weight (sym c.if-is_operator.ensures) c.len.ensures
-      c.in_ok-weight.ensures.taken c.in_ok-weight.ensures.weight c.in_ok-push.ensures.items
+    c.in_ok-weight.ensures.taken c.in_ok-weight.ensures.weight c.in_ok-push.ensures.items
 
 pub leaf-returns-in-Name-clause-weight : goal.leaf-returns-in-Name-clause-weight
 leaf-returns-in-Name-clause-weight t c = because _ _ c.name.result (weighs-name c.args.names.now c.args.depth c.args.at.now c.args.node.now _ c.in-Name.is) c.name.ensures.weight
@@ -85,17 +85,17 @@ leaf-returns-in_ok-before-in-Quant-clause-weight t c =
     let n = c.args.names.now in let d = c.args.depth in let k = c.args.at.now in
     let s = c.in_ok-before-in-Quant.ensures.weight ∙ ap (λ l. sets_of n d k (each_group l)) c.as_slice.ensures in
     because _ _ c.behind.result
-      (weighs-quant n d k c.args.node.now _ _ c.in-Quant.is
-      ∙ sym (λ i. join (s i) (total (weights_of (c.in_ok-before-in-Quant.ensures.same i) d k (terms_of (map term_of (out-Node c.args.node.now).parts))))))
-      c.behind.ensures.weight
+    (weighs-quant n d k c.args.node.now _ _ c.in-Quant.is
+    ∙ sym (λ i. join (s i) (total (weights_of (c.in_ok-before-in-Quant.ensures.same i) d k (terms_of (map term_of (out-Node c.args.node.now).parts))))))
+    c.behind.ensures.weight
 
 pub leaf-returns-in_ok-before-in-Choose-clause-weight : goal.leaf-returns-in_ok-before-in-Choose-clause-weight
 leaf-returns-in_ok-before-in-Choose-clause-weight t c =
     let n = c.args.names.now in let d = c.args.depth in let k = c.args.at.now in
     because _ _ c.behind-in-Choose.result
-      (weighs-choose n d k c.args.node.now _ c.in-Choose.is
-      ∙ sym (λ i. join (c.in_ok-before-in-Choose.ensures.weight i) (total (weights_of (c.in_ok-before-in-Choose.ensures.same i) d k (terms_of (map term_of (out-Node c.args.node.now).parts))))))
-      c.behind-in-Choose.ensures.weight
+    (weighs-choose n d k c.args.node.now _ c.in-Choose.is
+    ∙ sym (λ i. join (c.in_ok-before-in-Choose.ensures.weight i) (total (weights_of (c.in_ok-before-in-Choose.ensures.same i) d k (terms_of (map term_of (out-Node c.args.node.now).parts))))))
+    c.behind-in-Choose.ensures.weight
 
 pub leaf-returns-in_ok-all-in-Let-clause-same : goal.leaf-returns-in_ok-all-in-Let-clause-same
 leaf-returns-in_ok-all-in-Let-clause-same t c =
@@ -119,10 +119,10 @@ leaf-returns-in_ok-apply-in_default t c =
     record {
       same = c.in_ok-parts-in_default.ensures.same;
       weight =
-        c.in_ok-apply-in_default.ensures
-        ∙ ap (by_form (out-Node c.args.node.now).form (out-Node c.args.node.now).place)
+          c.in_ok-apply-in_default.ensures
+          ∙ ap (by_form (out-Node c.args.node.now).form (out-Node c.args.node.now).place)
           (c.in_ok-all-in_default.ensures ∙ ap total (c.in_ok-parts-in_default.ensures.weights ∙ ap (λ l. weights_of n d k (terms_of (map term_of l))) c.as_slice-in_default.ensures))
-        ∙ sym (weighs-plain n d k c.args.node.now o.not-Name o.not-Call o.not-BoxAct o.not-AngleAct o.not-At o.not-Except o.not-Quant o.not-Choose o.not-Let);
+          ∙ sym (weighs-plain n d k c.args.node.now o.not-Name o.not-Call o.not-BoxAct o.not-AngleAct o.not-At o.not-Except o.not-Quant o.not-Choose o.not-Let);
     }
 
 pub each-loop-node-preserved : goal.each-loop-node-preserved
@@ -131,8 +131,8 @@ each-loop-node-preserved t c =
     record {
       same = c.in_ok-weight.ensures.same ∙ c.loop-node.invariant.same;
       rest = each-next n d k _ c.loop-node.found.items c.push.new.self.items c.in_ok-weight.weight _ _ c.node-item.result c.loop-node.invariant.rest
-        (next-one c.args.nodes.now c.loop-node.node-index (c.loop-node.node-index + 1) c.node-item.result refl c.loop-node-test.true c.node-item.is)
-        (c.in_ok-weight.ensures.weight ∙ ap (λ s. weight_of s d k (term_of c.node-item.result)) c.loop-node.invariant.same) c.in_ok-push.ensures.items;
+          (next-one c.args.nodes.now c.loop-node.node-index (c.loop-node.node-index + 1) c.node-item.result refl c.loop-node-test.true c.node-item.is)
+          (c.in_ok-weight.ensures.weight ∙ ap (λ s. weight_of s d k (term_of c.node-item.result)) c.loop-node.invariant.same) c.in_ok-push.ensures.items;
     }
 
 pub each-returns : goal.each-returns
@@ -141,8 +141,8 @@ each-returns t c =
     record {
       same = c.loop-node.invariant.same;
       weights = sym (append-nil c.loop-node.found.items)
-        ∙ ap (λ l. c.loop-node.found.items ++ weights_of n d k (terms_of (map term_of l))) (sym (all-past c.args.nodes.now c.loop-node.node-index c.loop-node-test.false))
-        ∙ c.loop-node.invariant.rest;
+          ∙ ap (λ l. c.loop-node.found.items ++ weights_of n d k (terms_of (map term_of l))) (sym (all-past c.args.nodes.now c.loop-node.node-index c.loop-node-test.false))
+          ∙ c.loop-node.invariant.rest;
     }
 
 pub action-returns : goal.action-returns
@@ -152,9 +152,9 @@ action-returns t c =
     record {
       same = in-any-case c.act.result (c.in_ok-others.ensures.same ∙ c.in_ok-taken.ensures.same);
       weight = because _ _ c.act.result
-        (ap (λ l. acted n d k p (terms_of (map term_of l))) (sym c.as_slice.ensures ∙ c.in-Some.ensures.cases.0)
-        ∙ sym (λ i. action_weight p (c.in_ok-taken.ensures.weight i) (s i)))
-        c.act.ensures;
+          (ap (λ l. acted n d k p (terms_of (map term_of l))) (sym c.as_slice.ensures ∙ c.in-Some.ensures.cases.0)
+          ∙ sym (λ i. action_weight p (c.in_ok-taken.ensures.weight i) (s i)))
+          c.act.ensures;
     }
 
 pub sets-loop-group-preserved : goal.sets-loop-group-preserved
@@ -163,8 +163,8 @@ sets-loop-group-preserved t c =
     record {
       same = c.in_ok-weight.ensures.same ∙ c.loop-group.invariant.same;
       rest = sets-next n d k _ c.loop-group.all c.join.new.self c.in_ok-weight.weight _ _ c.group-item.result c.loop-group.invariant.rest
-        (next-one c.args.groups.now c.loop-group.group-index (c.loop-group.group-index + 1) c.group-item.result refl c.loop-group-test.true c.group-item.is)
-        (c.in_ok-weight.ensures.weight ∙ ap (λ s. domain_weight s d k (out-Group c.group-item.result).domain) c.loop-group.invariant.same) c.in_ok-join.ensures;
+          (next-one c.args.groups.now c.loop-group.group-index (c.loop-group.group-index + 1) c.group-item.result refl c.loop-group-test.true c.group-item.is)
+          (c.in_ok-weight.ensures.weight ∙ ap (λ s. domain_weight s d k (out-Group c.group-item.result).domain) c.loop-group.invariant.same) c.in_ok-join.ensures;
     }
 
 pub sets-returns : goal.sets-returns
@@ -173,8 +173,8 @@ sets-returns t c =
     record {
       same = c.loop-group.invariant.same;
       weight = sym (joined-nothing c.loop-group.all)
-        ∙ ap (λ l. join c.loop-group.all (sets_of n d k (each_group l))) (sym (all-past c.args.groups.now c.loop-group.group-index c.loop-group-test.false))
-        ∙ c.loop-group.invariant.rest;
+          ∙ ap (λ l. join c.loop-group.all (sets_of n d k (each_group l))) (sym (all-past c.args.groups.now c.loop-group.group-index c.loop-group-test.false))
+          ∙ c.loop-group.invariant.rest;
     }
 
 pub key-returns-in-At-clause-weight : goal.key-returns-in-At-clause-weight
@@ -189,9 +189,9 @@ keys-loop-part-preserved t c =
     record {
       same = c.in_ok-weight.ensures.same ∙ c.loop-part.invariant.same;
       rest = keys-next n d k _ c.loop-part.all c.join.new.self c.in_ok-weight.weight _ _ c.part-item.result c.loop-part.invariant.rest
-        (subst (λ l. drop c.loop-part.part-index l ≡ c.part-item.result ∷ drop (c.loop-part.part-index + 1) l) c.as_slice-part-items.ensures
+          (subst (λ l. drop c.loop-part.part-index l ≡ c.part-item.result ∷ drop (c.loop-part.part-index + 1) l) c.as_slice-part-items.ensures
           (next-one c.as_slice-part-items.result.now c.loop-part.part-index (c.loop-part.part-index + 1) c.part-item.result refl c.loop-part-test.true c.part-item.is))
-        (c.in_ok-weight.ensures.weight ∙ ap (λ s. keys_on s d k (each_key (c.part-item.result ∷ []))) c.loop-part.invariant.same) c.in_ok-join.ensures;
+          (c.in_ok-weight.ensures.weight ∙ ap (λ s. keys_on s d k (each_key (c.part-item.result ∷ []))) c.loop-part.invariant.same) c.in_ok-join.ensures;
     }
 
 pub keys-returns : goal.keys-returns
@@ -200,9 +200,9 @@ keys-returns t c =
     record {
       same = c.loop-part.invariant.same;
       weight = sym (joined-nothing c.loop-part.all)
-        ∙ ap (λ l. join c.loop-part.all (keys_on n d k (each_key l)))
+          ∙ ap (λ l. join c.loop-part.all (keys_on n d k (each_key l)))
           (sym (ap (drop c.loop-part.part-index) (sym c.as_slice-part-items.ensures) ∙ all-past c.as_slice-part-items.result.now c.loop-part.part-index c.loop-part-test.false))
-        ∙ c.loop-part.invariant.rest;
+          ∙ c.loop-part.invariant.rest;
     }
 
 pub except-returns-in_default-split_first-clause-weight : goal.except-returns-in_default-split_first-clause-weight
@@ -217,12 +217,12 @@ except-loop-index-preserved t c =
     record {
       same = c.in_ok-weight.ensures.same ∙ same;
       rest = updates-next n d k _ c.loop-index.all c.join.new.self c.join-in-loop-index.new.self c.in_ok-found.found c.in_ok-weight.weight _ _ _ _ c.index-paths-index.result c.index-values-index.result c.loop-index.invariant.rest
-        (next-one c.as_slice-paths.result.now c.loop-index.index (c.loop-index.index + 1) c.index-paths-index.result refl c.if-index-paths.false c.index-paths-index.is)
-        (next-one c.in-Some.values.now c.loop-index.index (c.loop-index.index + 1) c.index-values-index.result refl c.loop-index-test.true c.index-values-index.is)
-        (c.in_ok-found.ensures.weight ∙ ap (λ s. keys_on s d k (each_key (out-Path c.index-paths-index.result).keys)) c.loop-index.invariant.same)
-        c.in_ok-join.ensures
-        (c.in_ok-weight.ensures.weight ∙ (λ i. weight_of (same i) d (c.in_ok-now.ensures i) (term_of c.index-values-index.result)))
-        c.in_ok-join-2.ensures;
+          (next-one c.as_slice-paths.result.now c.loop-index.index (c.loop-index.index + 1) c.index-paths-index.result refl c.if-index-paths.false c.index-paths-index.is)
+          (next-one c.in-Some.values.now c.loop-index.index (c.loop-index.index + 1) c.index-values-index.result refl c.loop-index-test.true c.index-values-index.is)
+          (c.in_ok-found.ensures.weight ∙ ap (λ s. keys_on s d k (each_key (out-Path c.index-paths-index.result).keys)) c.loop-index.invariant.same)
+          c.in_ok-join.ensures
+          (c.in_ok-weight.ensures.weight ∙ (λ i. weight_of (same i) d (c.in_ok-now.ensures i) (term_of c.index-values-index.result)))
+          c.in_ok-join-2.ensures;
     }
 
 pub except-returns-then-index-paths-clause-weight : goal.except-returns-then-index-paths-clause-weight
@@ -231,7 +231,7 @@ except-returns-then-index-paths-clause-weight t c = λ h.
     sym (ap (λ l. updates_on n d k l (drop c.loop-index.index c.in-Some.values.now) c.loop-index.all) (all-past c.as_slice-paths.result.now c.loop-index.index c.if-index-paths.true))
     ∙ c.loop-index.invariant.rest
     ∙ except-begins n d k c.args.node.now c.in-Except.paths c.as_slice-paths.result.now c.in-Some.values.now c.in-Some.function.now c.in_ok-all.all c.in-Except.is c.as_slice-paths.ensures
-      (sym c.as_slice.ensures ∙ c.in-Some.ensures.cases.0) c.in_ok-all.ensures.weight
+    (sym c.as_slice.ensures ∙ c.in-Some.ensures.cases.0) c.in_ok-all.ensures.weight
 
 pub except-returns : goal.except-returns
 except-returns t c =
@@ -239,10 +239,10 @@ except-returns t c =
     record {
       same = c.loop-index.invariant.same;
       weight = λ h.
-        sym (ap (λ l. updates_on n d k (drop c.loop-index.index c.as_slice-paths.result.now) l c.loop-index.all) (all-past c.in-Some.values.now c.loop-index.index c.loop-index-test.false)
+          sym (ap (λ l. updates_on n d k (drop c.loop-index.index c.as_slice-paths.result.now) l c.loop-index.all) (all-past c.in-Some.values.now c.loop-index.index c.loop-index-test.false)
           ∙ no-more-values n d k (drop c.loop-index.index c.as_slice-paths.result.now) c.loop-index.all)
-        ∙ c.loop-index.invariant.rest
-        ∙ except-begins n d k c.args.node.now c.in-Except.paths c.as_slice-paths.result.now c.in-Some.values.now c.in-Some.function.now c.in_ok-all.all c.in-Except.is c.as_slice-paths.ensures
+          ∙ c.loop-index.invariant.rest
+          ∙ except-begins n d k c.args.node.now c.in-Except.paths c.as_slice-paths.result.now c.in-Some.values.now c.in-Some.function.now c.in_ok-all.all c.in-Except.is c.as_slice-paths.ensures
           (sym c.as_slice.ensures ∙ c.in-Some.ensures.cases.0) c.in_ok-all.ensures.weight;
     }
 

@@ -2,7 +2,7 @@ use Rattle.std.proofs.Common.{ap, subst, ◌∙◌}
 use Rattle.plain_syntax.specs.Syntax.{term_of}
 use Rattle.expression_level.specs.Store.{AllClosed}
 use Rattle.expression_level.specs.Scope.{names_of, weight_of}
-use Rattle.expression_level.proofs.Kept.{at_first, judged-is}
+use Rattle.expression_level.proofs.Kept.{judged-is}
 use Rattle.expression_level.proofs.levels.Levels.judge.Goals as goal
 
 pub returns : goal.returns

@@ -9,6 +9,6 @@ returns-then-local-number c = let e = c.loop-left-test.true in
 
 pub loop-left-preserved : goal.loop-left-preserved
 loop-left-preserved c = let e = c.loop-left-test.true in let f = c.loop-left.invariant.within in record {
-    same = c.loop-left.invariant.same ∙ local-missed c.args.self.now.locals _ c.loop-left.left (c.loop-left.left - 1) c.args.number c.index-local.result.now (ap (λ s. s.locals) c.self.view_is) c.index-local.ensures (omega (arith, e)) c.loop-left.invariant.within c.if-local-number.false;
-    within = omega (arith, f);
-  }
+  same = c.loop-left.invariant.same ∙ local-missed c.args.self.now.locals _ c.loop-left.left (c.loop-left.left - 1) c.args.number c.index-local.result.now (ap (λ s. s.locals) c.self.view_is) c.index-local.ensures (omega (arith, e)) c.loop-left.invariant.within c.if-local-number.false;
+  within = omega (arith, f);
+}
