@@ -1,0 +1,4 @@
+pub mod Both
+pub mod Forms
+pub mod Symbols
+pub mod Core

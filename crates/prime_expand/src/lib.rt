@@ -1,0 +1,7 @@
+//! Core forms and priming.
+#![tactic(auto)]
+
+mod both;
+mod parts;
+
+pub use both::Both;
