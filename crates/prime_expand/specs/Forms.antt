@@ -1,5 +1,5 @@
 -- The forms of expressions that lead to several nodes.
-use Rattle.std.specs.Prelude.{ℕ, List, [], ◌∷◌, map}
+use Rattle.std.specs.Prelude.{List, [], ◌∷◌, map, fold}
 use Rattle.core_expr.specs.declared.head.Binder.TheVariants.{Filter, Fun, Choose}
 use Rattle.core_expr.specs.declared.head.Head.TheVariants.{True, False, Not, And, Or, Eq, Enum, Union, FunSet, Apply, Except, If}
 use Rattle.core_expr.specs.Tree.{Tree, true_, eq_, in_, apply_, enum_, str_, funset_}
@@ -28,13 +28,17 @@ string h = same (str_ h)
 
 -- r[k1]..[kn]
 abbrev pub along : Both → List Both → Both
-along r [] = r
-along r (k ∷ ks) = along (binary Apply r k) ks
+along = fold (binary Apply)
 
 -- [r EXCEPT ![k1]..[kn] = v]
 abbrev pub updated : Both → List Both → Both → Both
 updated r [] v = v
 updated r (k ∷ ks) v = ternary Except r k (updated (binary Apply r k) ks v)
+
+-- the values on the way of a path, each with the key that follows it
+abbrev pub way : Both → List Both → List (Both × Both)
+way r [] = []
+way r (k ∷ ks) = (r, k) ∷ way (binary Apply r k) ks
 
 -- ---- records
 

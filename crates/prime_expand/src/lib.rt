@@ -2,6 +2,8 @@
 #![tactic(auto)]
 
 mod both;
+mod forms;
 mod parts;
+mod symbols;
 
 pub use both::Both;

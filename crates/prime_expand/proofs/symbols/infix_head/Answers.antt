@@ -1,0 +1,9 @@
+use Rattle.std.proofs.Common.{refl, sym, subst}
+use Rattle.std.specs.Prelude.{IfSome}
+use Rattle.core_expr.specs.Heads.{takes}
+use Rattle.prime_expand.specs.Symbols.{infix_heads}
+use Rattle.prime_expand.proofs.Heads.{taken}
+use Rattle.prime_expand.proofs.symbols.infix_head.Goals as goal
+
+pub returns-clause-takes : goal.returns-clause-takes
+returns-clause-takes c = rw c.head_in.ensures (taken 2 infix_heads c.args.sign.now refl)
