@@ -1,5 +1,5 @@
 -- The core of an expression, and its primed form.
-use Rattle.std.specs.Prelude.{ℕ, zero, suc, ◌+◌, ◌-◌, Bool, true, false, nat_eq, if◌then◌else◌, List, [], ◌∷◌, length, Option, Some, None}
+use Rattle.std.specs.Prelude.{ℕ, zero, suc, ◌+◌, ◌-◌, Bool, true, false, nat_eq, if◌then◌else◌, List, [], ◌∷◌, length, drop, Option, Some, None}
 use Rattle.std.specs.Option.{unwrap_or}
 use Rattle.tla_ast.specs.declared.place.Place.{Place}
 use Rattle.tla_ast.specs.declared.tree.Decl.{Decl}
@@ -108,10 +108,10 @@ module _ (means : Place → Option ℕ) (entries : List Entry) where
   with_groups d (free ds gs) env = with_groups (d + length ds) gs (with_names d ds env)
   with_groups d (within ds t gs) env = with_groups (d + length ds) gs (with_names d ds env)
 
+  -- the parameters of a definition by its arguments
   abbrev pub with_arguments : ℕ → List Decl → List Both → Env → Env
   with_arguments d [] args env = env
-  with_arguments d (x ∷ xs) [] env = with_arguments d xs [] (known_as (means x.place) (fixed (d, same true_)) env)
-  with_arguments d (x ∷ xs) (a ∷ args) env = with_arguments d xs args (known_as (means x.place) (fixed (d, a)) env)
+  with_arguments d (x ∷ xs) args env = with_arguments d xs (drop 1 args) (known_as (means x.place) (fixed (d, part_at 0 args)) env)
 
   -- The core of an expression, where names mean this, `@` means that, d binders deep.
   abbrev mutual

@@ -2,3 +2,4 @@ pub mod Both
 pub mod Forms
 pub mod Symbols
 pub mod Core
+pub mod Env

@@ -2,8 +2,11 @@
 #![tactic(auto)]
 
 mod both;
+mod env;
 mod forms;
+mod operators;
 mod parts;
+mod ranges;
 mod symbols;
 
 pub use both::Both;
