@@ -1,6 +1,7 @@
 -- What names mean, once names, groups and definitions were met.
-use Rattle.std.proofs.Common.{◌≡◌, ℕ, zero, suc, ◌+◌, get_or, Bool, true, false, if◌then◌else◌, nat_eq, List, [], ◌∷◌, ◌++◌, map, fold, length, take, drop, Option, Some, None, refl, ap, sym, ◌∙◌, arith}
+use Rattle.std.proofs.Common.{◌≡◌, ℕ, suc, ◌+◌, Bool, true, false, if◌then◌else◌, nat_eq, List, [], ◌∷◌, ◌++◌, map, fold, length, take, drop, Option, Some, None, refl, ap, sym, ◌∙◌, arith}
 use Rattle.std.specs.Borrow.{Bor}
+use Rattle.std.specs.Global.{Vec}
 use Rattle.tla_ast.specs.declared.tree.Decl.{Decl}
 use Rattle.tla_ast.specs.declared.tree.Node.{Node}
 use Rattle.tla_ast.specs.declared.tree.Group.{Group, out-Group}
@@ -60,7 +61,7 @@ pub env-empty : (c : Names) → env_of c variants.Empty ≡ []
 unfolding env_of
 env-empty c = ap (env_of c) (sym variants.rolls-Empty) ∙ fold-roll-Env Env (env_step c) Env-F.Empty
 
-pub env-known : (c : Names) (ks : Bor (List Known)) (o : Bor env.Env) → env_of c (variants.Known ks o) ≡ pushed (map entry_of ks.now) (env_of c o.now)
+pub env-known : (c : Names) (ks : Vec Known) (o : Bor env.Env) → env_of c (variants.Known ks o) ≡ pushed (map entry_of ks.items) (env_of c o.now)
 unfolding env_of
 env-known c ks o = ap (env_of c) (sym (variants.rolls-Known ks o)) ∙ fold-roll-Env Env (env_step c) (Env-F.Known ks o)
 
@@ -68,24 +69,6 @@ pub env-definitions : (c : Names) (ds : Bor (List Def)) (a : code.Standing) (o :
     → env_of c (variants.Definitions ds a o) ≡ defining c (standing_of a) (each_def ds.now) (env_of c o.now)
 unfolding env_of
 env-definitions c ds a o = ap (env_of c) (sym (variants.rolls-Definitions ds a o)) ∙ fold-roll-Env Env (env_step c) (Env-F.Definitions ds a o)
-
--- ---- arguments
-
-second_drop : (i : ℕ) (args : List Both) → drop 1 (drop i args) ≡ drop (suc i) args
-second_drop zero [] = refl
-second_drop zero (a ∷ args) = refl
-second_drop (suc i) [] = refl
-second_drop (suc i) (a ∷ args) = second_drop i args
-
-pub part_dropped : (i : ℕ) (args : List Both) → part_at 0 (drop i args) ≡ get_or args i (same true_)
-part_dropped zero [] = refl
-part_dropped zero (a ∷ args) = refl
-part_dropped (suc i) [] = refl
-part_dropped (suc i) (a ∷ args) = part_dropped i args
-
-pub arguing_first : (c : Names) (d : ℕ) (p : Decl) (ps : List Decl) (args : List Both) (i : ℕ) (e : Env)
-    → arguing c d (p ∷ ps) (drop i args) e ≡ arguing c d ps (drop (i + 1) args) (known_as (means c p.place) (fixed (d, get_or args i (same true_))) e)
-arguing_first c d p ps args i e = λ j. arguing c d ps ((second_drop i args ∙ ap (λ n. drop n args) (let n : suc i ≡ i + 1 = omega arith in n)) j) (known_as (means c p.place) (fixed (d, part_dropped i args j)) e)
 
 names-step : (ns : List Decl) (o : Option Node) (rest : Groups) → names_in (with_domain ns (set_of o) rest) ≡ length ns + names_in rest
 names-step ns None rest = refl

@@ -1,14 +1,16 @@
 -- The environments of the code as lists of what names mean.
-use Rattle.std.specs.Prelude.{ℕ, Bool, true, false, if◌then◌else◌, nat_eq, List, [], ◌∷◌, map, fold, Option, Some, None}
+use Rattle.std.specs.Prelude.{ℕ, suc, ◌+◌, ◌-◌, Bool, true, false, if◌then◌else◌, nat_eq, List, [], ◌∷◌, ◌++◌, length, take, drop, map, fold, Option, Some, None}
 use Rattle.std.specs.Borrow.{Bor}
 use Rattle.tla_ast.specs.declared.place.Place.{Place}
 use Rattle.tla_ast.specs.declared.tree.Def.{Def, out-Def}
-use Rattle.core_expr.specs.Tree.Tree.{bound}
 use Rattle.symbol_table.specs.declared.entry.Entry.{Entry}
 use Rattle.symbol_table.specs.Scoped.{symbol}
 use Rattle.tla_ast.specs.declared.tree.Decl.{Decl}
-use Rattle.plain_syntax.specs.Plain.{Term, Terms, Groups, Defs}
-use Rattle.plain_syntax.specs.Syntax.{term_of, each_def}
+use Rattle.plain_syntax.specs.Plain.{Term, Terms, Keys, Groups, Defs}
+use Rattle.tla_ast.specs.declared.tree.Node.{Node}
+use Rattle.tla_ast.specs.declared.tree.Group.{Group, out-Group}
+use Rattle.core_expr.specs.Tree.{true_}
+use Rattle.plain_syntax.specs.Syntax.{term_of, each_def, updates_of}
 use Rattle.prime_expand.specs.declared.both.Both.{Both}
 use Rattle.prime_expand.specs.declared.env.Names.{Names}
 use Rattle.prime_expand.specs.declared.env.Standing as code
@@ -24,15 +26,11 @@ use Rattle.core_expr.specs.declared.head.Binder.{Binder}
 use Rattle.core_expr.specs.declared.head.Head.TheVariants.{True, And, Or, Apply, Enum, Tuple, FunSet, If}
 use Rattle.core_expr.specs.Terms.{numeral_of}
 use Rattle.plain_syntax.specs.Plain.{Text}
-use Rattle.prime_expand.specs.Both.{same, part_at, binary, two, three, many, joined, temporal_, quantified, bounded}
-use Rattle.prime_expand.specs.Forms.{string, boxed, angled}
+use Rattle.prime_expand.specs.Both.{same, part_at, seconds, binary, two, three, many, joined, temporal_, quantified, bounded}
+use Rattle.prime_expand.specs.Forms.{string, boxed, angled, along, updated, record_of, records_of, case_of}
 use Rattle.prime_expand.specs.Symbols.{by_prefix, by_infix}
-use Rattle.prime_expand.specs.Core.{Meaning, Env, Standing, core, cores, with_names, with_groups, with_arguments, with_definitions}
+use Rattle.prime_expand.specs.Core.{Meaning, Env, Standing, at_depth, names_in, used, over, keys, updates, wrapped, core, cores, with_names, with_groups, with_arguments, with_definitions}
 use Rattle.prime_expand.specs.Core.Meaning.{fixed, given}
-
--- the variable of the innermost binder
-abbrev pub variable_ : Both
-variable_ = same (bound 0)
 
 abbrev pub means : Names → Place → Option ℕ
 means c = symbol c.scoped.now c.home
@@ -41,7 +39,7 @@ abbrev pub standing_of : code.Standing → Standing
 standing_of s = (s.depth, s.value.now)
 
 abbrev pub entry_of : Known → ℕ × Meaning
-entry_of k = (k.number, fixed (standing_of k.standing))
+entry_of k = (k.number, fixed (k.depth, k.value))
 
 -- entries that come after others, one by one
 abbrev pub pushed : List (ℕ × Meaning) → Env → Env
@@ -75,7 +73,7 @@ module _ (c : Names) where
 
   abbrev pub env_step : Env-F Env → Env
   env_step Env-F.Empty = []
-  env_step (Env-F.Known ks outer) = pushed (map entry_of ks.now) outer.now
+  env_step (Env-F.Known ks outer) = pushed (map entry_of ks.items) outer.now
   env_step (Env-F.Definitions ds a outer) = defining (standing_of a) (each_def ds.now) outer.now
 
   unfoldable pub env_of : env.Env → Env
@@ -148,3 +146,55 @@ bound_once b (Some s) p = bounded b s p
 abbrev pub bound_each : Binder → List (Option Both) → Both → Both
 bound_each b [] p = p
 bound_each b (r ∷ rs) p = bound_once b r (bound_each b rs p)
+
+-- the operands, which are uppermost on a stack, give way to the operator over them
+abbrev pub reduced : Names → Form → Place → ℕ → List Both → List Both
+reduced c f p k st = take (length st - k) st ++ operator c f p (drop (length st - k) st) ∷ []
+
+-- ---- forms, by what they hold
+
+abbrev pub used_at : Names → Text → Env → Place → ℕ → List Both → Both
+used_at c = used (means c) (entries c)
+
+abbrev pub over_at : Names → Binder → Env → Standing → ℕ → Place → Terms → Both
+over_at c = over (means c) (entries c)
+
+abbrev pub keys_at : Names → Env → Standing → ℕ → Keys → List Both
+keys_at c = keys (means c) (entries c)
+
+abbrev pub update_at : Names → Env → Standing → ℕ → Both → Keys → Term → Both
+update_at c e a d r ks t = updated r (keys_at c e a d ks) (core_at c e (d, along r (keys_at c e a d ks)) d t)
+
+abbrev pub except_at : Names → Env → Standing → ℕ → List Keys → List Term → Both
+except_at c e a d ks [] = same true_
+except_at c e a d ks (t ∷ ts) = updates (means c) (entries c) e a d (core_at c e a d t) (updates_of ks ts)
+
+abbrev pub quantified_at : Names → Env → Standing → ℕ → Binder → Groups → Terms → Both
+quantified_at c e a d b gs ts = wrapped (means c) (entries c) e a d b gs (part_at 0 (cores_at c (grouping c d gs e) a (d + names_in gs) ts))
+
+abbrev pub set_at : Names → Env → Standing → ℕ → Option Node → Option Both
+set_at c e a d None = None
+set_at c e a d (Some n) = Some (core_at c e a d (term_of n))
+
+-- the set of each of these names under its binder
+abbrev pub range_over : Names → Env → Standing → ℕ → List Decl → Option Node → List (Option Both)
+range_over c e a d [] o = []
+range_over c e a d (x ∷ xs) o = set_at c e a (suc d) o ∷ range_over c e a (suc d) xs o
+
+abbrev pub range : Names → Env → Standing → ℕ → Group → List (Option Both)
+range c e a d g = range_over c e a d (out-Group g).names (out-Group g).domain
+
+abbrev pub ranges : Names → Env → Standing → ℕ → List Group → List (Option Both)
+ranges c e a d [] = []
+ranges c e a d (g ∷ gs) = range c e a d g ++ ranges c e a (d + length (out-Group g).names) gs
+
+abbrev pub plain_by : {A B C D E F : Type 0} → Names → Env → Standing → ℕ → Form-F A B C D E F → Terms → Both
+plain_by c e a d (Form-F.Record hs) ts = record_of hs (seconds (cores_at c e a (suc d) ts))
+plain_by c e a d (Form-F.RecordSet hs) ts = records_of hs (seconds (cores_at c e a d ts)) (seconds (cores_at c e a (suc d) ts))
+plain_by c e a d (Form-F.Case other) ts = case_of (cores_at c e a (suc d) ts)
+plain_by c e a d Form-F.Form::At ts = at_depth d a
+plain_by c e a d f ts = flat_by f (cores_at c e a d ts)
+
+-- a node that is no name and no operator, and binds nothing but in records and CASE
+abbrev pub plain_at : Names → Env → Standing → ℕ → Form → Terms → Both
+plain_at c e a d f = plain_by c e a d (out-Form f)

@@ -8,5 +8,6 @@ mod operators;
 mod parts;
 mod ranges;
 mod symbols;
+mod walk;
 
 pub use both::Both;

@@ -1,4 +1,4 @@
-use Rattle.std.proofs.Common.{◌≡◌, map, fold, ap, sym, ◌∙◌}
+use Rattle.std.proofs.Common.{rules, ◌≡◌, map, fold, ap, sym, ◌∙◌}
 use Rattle.plain_syntax.specs.Syntax.{each_def}
 use Rattle.prime_expand.specs.Core.{lookup}
 use Rattle.prime_expand.specs.Env.{env_of, entry_of, standing_of, pick}
@@ -12,8 +12,9 @@ pub returns-in-Known : goal.returns-in-Known
 returns-in-Known t c =
     let s = c.args.self.now in
     let n = c.args.number in
-    let es = map entry_of c.in-Known.known.now in
-    c.last_known.ensures s ∙ ap (λ m. fold (pick n) m es) c.find.ensures ∙ sym (lookup-pushed n es (env_of s c.in-Known.outer.now))
+    let es = map entry_of c.in-Known.known.items in
+    let k : c.as_slice.result.now ≡ c.in-Known.known.items = search rules in
+    c.last_known.ensures s ∙ (λ i. fold (pick n) (c.find.ensures i) (map entry_of (k i))) ∙ sym (lookup-pushed n es (env_of s c.in-Known.outer.now))
       ∙ sym (ap (λ e. lookup e n) (ap (env_of s) c.in-Known.is ∙ env-known s c.in-Known.known c.in-Known.outer))
 
 pub returns-in-Definitions : goal.returns-in-Definitions
