@@ -1,5 +1,5 @@
 -- What names mean, once names, groups and definitions were met.
-use Rattle.std.proofs.Common.{◌≡◌, ℕ, suc, ◌+◌, Bool, true, false, if◌then◌else◌, nat_eq, List, [], ◌∷◌, ◌++◌, map, fold, length, take, drop, Option, Some, None, refl, ap, sym, ◌∙◌, arith}
+use Rattle.std.proofs.Common.{◌≡◌, ℕ, ◌+◌, List, [], ◌∷◌, ◌++◌, map, fold, length, Option, Some, None, refl, ap, sym, ◌∙◌}
 use Rattle.std.specs.Borrow.{Bor}
 use Rattle.std.specs.Global.{Vec}
 use Rattle.tla_ast.specs.declared.tree.Decl.{Decl}
@@ -7,8 +7,7 @@ use Rattle.tla_ast.specs.declared.tree.Node.{Node}
 use Rattle.tla_ast.specs.declared.tree.Group.{Group, out-Group}
 use Rattle.tla_ast.specs.declared.tree.Def.{Def, out-Def}
 use Rattle.plain_syntax.specs.Plain.{Groups, Defs}
-use Rattle.plain_syntax.specs.Plain.Groups.{free, within}
-use Rattle.plain_syntax.specs.Syntax.{groups_of, defs_of, each_group, each_def, with_domain, set_of, term_of}
+use Rattle.plain_syntax.specs.Syntax.{each_group, each_def, with_domain, set_of, term_of}
 use Rattle.plain_syntax.proofs.Forms.{is-group, is-def}
 use Rattle.prime_expand.specs.declared.both.Both.{Both}
 use Rattle.prime_expand.specs.declared.env.Names.{Names}
@@ -19,10 +18,8 @@ use Rattle.prime_expand.specs.declared.env.Env.TheOpen.{Env-F}
 use Rattle.prime_expand.specs.declared.env.Env.TheVariants as variants
 use Rattle.prime_expand.specs.declared.env.Standing as code
 use Rattle.core_expr.specs.declared.head.Binder.{Binder}
-use Rattle.core_expr.specs.Tree.{true_}
-use Rattle.prime_expand.specs.Both.{same, part_at}
 use Rattle.prime_expand.specs.Core.{Meaning, Env, Standing, lookup, known_as, names_in}
-use Rattle.prime_expand.specs.Core.Meaning.{fixed, given}
+use Rattle.prime_expand.specs.Core.Meaning.{given}
 use Rattle.prime_expand.specs.Env.{means, naming, grouping, defining, env_of, env_step, pushed, pick, entry_of, standing_of, applied_def, core_at, arguing, bound_each, bound_once}
 
 -- what is found among entries is what the last of them tells, or what was found before
@@ -45,8 +42,8 @@ pub defining_last : (c : Names) (a : Standing) (ds : List Def) (d : Def) (e : En
 defining_last c a [] d e = ap (λ (f : Defs → Defs). defining c a (f (each_def [])) e) (is-def d)
 defining_last c a (b ∷ ds) d e =
     ap (λ (f : Defs → Defs). defining c a (f (each_def (ds ++ d ∷ []))) e) (is-def b)
-      ∙ defining_last c a ds d _
-      ∙ (λ i. known_as (means c (out-Def d).place) (given (λ k args. applied_round k args (sym (is-def b) i))) (defining c a (sym (is-def b) i (each_def ds)) e))
+    ∙ defining_last c a ds d _
+    ∙ (λ i. known_as (means c (out-Def d).place) (given (λ k args. applied_round k args (sym (is-def b) i))) (defining c a (sym (is-def b) i (each_def ds)) e))
   where
     applied_round : ℕ → List Both → (Defs → Defs) → Both
     applied_round k args f = core_at c (arguing c k (out-Def d).params args (defining c a (f (each_def ds)) e)) a k (term_of (out-Def d).body)

@@ -3,16 +3,14 @@ use Rattle.std.specs.Prelude.{◌≡◌, ℕ, Bool, true, false, List, [], ◌�
 use Rattle.std.proofs.Common.{refl}
 use Rattle.tla_ast.specs.declared.place.Place.{Place}
 use Rattle.tla_ast.specs.declared.tree.Decl.{Decl}
-use Rattle.core_expr.specs.declared.head.SymKind.{SymKind}
 use Rattle.core_expr.specs.declared.head.SymKind.TheVariants as sym
-use Rattle.core_expr.specs.Tree.{Tree, Parts as parts, eq_, apply_, except_, in_, imp_, and_, all_, ex_}
+use Rattle.core_expr.specs.Tree.{Tree, eq_, apply_, except_, in_, imp_, and_, all_, ex_}
 use Rattle.core_expr.specs.Tree.Tree.{bound}
-use Rattle.core_expr.specs.Heads.{parts_of}
 use Rattle.symbol_table.specs.declared.entry.Entry.{Entry}
 use Rattle.symbol_table.specs.declared.entry.EntrySort.{EntrySort}
 use Rattle.symbol_table.specs.declared.entry.EntrySort.TheVariants as sorts
 use Rattle.symbol_table.specs.Scoped.{Table, symbol}
-use Rattle.plain_syntax.specs.Plain.{Text, Term, Terms, Shape}
+use Rattle.plain_syntax.specs.Plain.{Text, Term}
 use Rattle.plain_syntax.specs.Plain.Term.{term}
 use Rattle.plain_syntax.specs.Plain.Terms.{none, part}
 use Rattle.plain_syntax.specs.Plain.Shape.{name, call, infixed, prime, except, quantifier, local, at}
@@ -20,7 +18,6 @@ use Rattle.plain_syntax.specs.Plain.Updates.{end_updates, update}
 use Rattle.plain_syntax.specs.Plain.Keys.{end_keys, key}
 use Rattle.plain_syntax.specs.Plain.Groups.{end_groups, within}
 use Rattle.plain_syntax.specs.Plain.Defs.{end_defs, def}
-use Rattle.prime_expand.specs.declared.both.Both.{Both}
 use Rattle.prime_expand.specs.Symbols.{applied}
 use Rattle.prime_expand.specs.Core.{core_of, core_in, bodies}
 
@@ -42,9 +39,9 @@ declared =
 -- a name at the column 10 n means the entry n
 abbrev table : Table
 table = record {
-    entries = declared;
-    symbols = ((here 1 0, 0) ∷ (here 1 10, 1) ∷ (here 1 20, 2) ∷ (here 1 30, 3) ∷ (here 1 40, 4) ∷ (here 1 50, 5) ∷ []) ∷ [];
-  }
+  entries = declared;
+  symbols = ((here 1 0, 0) ∷ (here 1 10, 1) ∷ (here 1 20, 2) ∷ (here 1 30, 3) ∷ (here 1 40, 4) ∷ (here 1 50, 5) ∷ []) ∷ [];
+}
 
 abbrev word : Text → ℕ → Term
 word w n = term (name w) none (here 1 n)
@@ -102,8 +99,8 @@ sets-see-no-names = refl
 
 -- LET F(x) == x' = x IN \E y \in c : F(y), where y is bound: the prime changes no bound name
 let-under-binder : core_in table 0 true
-      (term (local (def (codes "F") (decl (codes "x") (here 1 30) ∷ []) (equal_ (prime_ x_) x_) (here 1 50) end_defs))
-        (part (term (quantifier false (within (decl (codes "y") (here 1 10) ∷ []) c_ end_groups)) (part (term (call (codes "F")) (part y_ none) (here 1 50)) none) (here 2 6)) none) (here 2 7))
+    (term (local (def (codes "F") (decl (codes "x") (here 1 30) ∷ []) (equal_ (prime_ x_) x_) (here 1 50) end_defs))
+    (part (term (quantifier false (within (decl (codes "y") (here 1 10) ∷ []) c_ end_groups)) (part (term (call (codes "F")) (part y_ none) (here 1 50)) none) (here 2 6)) none) (here 2 7))
     ≡ ex_ (and_ (in_ (bound 0) (constant_ 2)) (eq_ (bound 0) (bound 0)))
 unfolding core_of
 let-under-binder = refl

@@ -4,7 +4,7 @@ use Rattle.core_expr.specs.declared.head.Head.{Head}
 use Rattle.core_expr.specs.declared.head.Binder.{Binder}
 use Rattle.core_expr.specs.declared.head.Binder.TheVariants.{All}
 use Rattle.core_expr.specs.declared.head.Head.TheVariants.{And, Imp, Temporal}
-use Rattle.core_expr.specs.Tree.{Tree, Parts, true_, in_}
+use Rattle.core_expr.specs.Tree.{Tree, true_, in_}
 use Rattle.core_expr.specs.Tree.Tree.{bound, node, bind}
 use Rattle.core_expr.specs.Tree.{Parts as parts}
 use Rattle.core_expr.specs.Heads.{parts_of}

@@ -1,9 +1,7 @@
 -- The core of an expression, and its primed form.
 use Rattle.std.specs.Prelude.{ℕ, zero, suc, ◌+◌, ◌-◌, Bool, true, false, nat_eq, if◌then◌else◌, List, [], ◌∷◌, length, drop, Option, Some, None}
-use Rattle.std.specs.Option.{unwrap_or}
 use Rattle.tla_ast.specs.declared.place.Place.{Place}
 use Rattle.tla_ast.specs.declared.tree.Decl.{Decl}
-use Rattle.core_expr.specs.declared.head.Sym.{Sym}
 use Rattle.core_expr.specs.declared.head.SymKind.{SymKind}
 use Rattle.core_expr.specs.declared.head.SymKind.TheVariants as sym
 use Rattle.core_expr.specs.declared.head.Binder.{Binder}
@@ -15,7 +13,7 @@ use Rattle.core_expr.specs.Tree.Tree.{bound}
 use Rattle.core_expr.specs.Terms.{numeral_of}
 use Rattle.symbol_table.specs.declared.entry.Entry.{Entry}
 use Rattle.symbol_table.specs.Scoped.{Table, entry_of, symbol}
-use Rattle.plain_syntax.specs.Plain.{Text, Term, Terms, Shape, Updates, Keys, Groups, Defs}
+use Rattle.plain_syntax.specs.Plain.{Text, Term, Terms, Updates, Keys, Groups, Defs}
 use Rattle.plain_syntax.specs.Plain.Term.{term}
 use Rattle.plain_syntax.specs.Plain.Terms.{none, part}
 use Rattle.plain_syntax.specs.Plain.Shape.{name, call, number, text, prefixed, infixed, prime, index, field, enum, filter, image, tuple, function, functions, except, fields, field_sets, box, angle, junction, quantifier, choice, conditional, cases, local, at, fair}
@@ -24,8 +22,8 @@ use Rattle.plain_syntax.specs.Plain.Keys.{end_keys, key, field_key}
 use Rattle.plain_syntax.specs.Plain.Groups.{end_groups, free, within}
 use Rattle.plain_syntax.specs.Plain.Defs.{end_defs, def}
 use Rattle.prime_expand.specs.declared.both.Both.{Both}
-use Rattle.prime_expand.specs.Both.{same, leaf, one, two, three, binary, many, quantified, ranged, bounded, temporal_, lifted, part_at, joined, seconds}
-use Rattle.prime_expand.specs.Forms.{unchanged, boxed, angled, string, along, updated, record_of, records_of, case_of}
+use Rattle.prime_expand.specs.Both.{same, leaf, two, three, binary, many, quantified, ranged, bounded, temporal_, lifted, part_at, joined, seconds}
+use Rattle.prime_expand.specs.Forms.{boxed, angled, string, along, updated, record_of, records_of, case_of}
 use Rattle.prime_expand.specs.Symbols.{by_sort, second_kind, values, head_in, by_prefix, by_infix}
 
 -- ---- what names mean where an expression stands

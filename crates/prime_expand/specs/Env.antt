@@ -1,6 +1,5 @@
 -- The environments of the code as lists of what names mean.
 use Rattle.std.specs.Prelude.{ℕ, suc, ◌+◌, ◌-◌, Bool, true, false, if◌then◌else◌, nat_eq, List, [], ◌∷◌, ◌++◌, length, take, drop, map, fold, Option, Some, None}
-use Rattle.std.specs.Borrow.{Bor}
 use Rattle.tla_ast.specs.declared.place.Place.{Place}
 use Rattle.tla_ast.specs.declared.tree.Def.{Def, out-Def}
 use Rattle.symbol_table.specs.declared.entry.Entry.{Entry}

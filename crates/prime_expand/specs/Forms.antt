@@ -2,12 +2,12 @@
 use Rattle.std.specs.Prelude.{List, [], ◌∷◌, map, fold}
 use Rattle.core_expr.specs.declared.head.Binder.TheVariants.{Filter, Fun, Choose}
 use Rattle.core_expr.specs.declared.head.Head.TheVariants.{True, False, Not, And, Or, Eq, Enum, Union, FunSet, Apply, Except, If}
-use Rattle.core_expr.specs.Tree.{Tree, true_, eq_, in_, apply_, enum_, str_, funset_}
+use Rattle.core_expr.specs.Tree.{Tree, true_, eq_, in_, apply_, enum_, str_}
 use Rattle.core_expr.specs.Tree.Tree.{bound}
 use Rattle.core_expr.specs.Heads.{parts_of}
 use Rattle.plain_syntax.specs.Plain.{Text}
 use Rattle.prime_expand.specs.declared.both.Both.{Both}
-use Rattle.prime_expand.specs.Both.{same, on_both, on_two, leaf, unary, binary, ternary, many, quantified, ranged, joined}
+use Rattle.prime_expand.specs.Both.{same, on_both, unary, binary, ternary, many, quantified, ranged, joined}
 
 -- v' = v; primed again, a prime changes nothing more
 abbrev pub unchanged : Both → Both

@@ -3,4 +3,3 @@ pub mod Forms
 pub mod Symbols
 pub mod Core
 pub mod Env
-pub mod Walk

@@ -14,7 +14,7 @@ use Rattle.symbol_table.specs.declared.entry.EntrySort.{EntrySort}
 use Rattle.symbol_table.specs.declared.entry.EntrySort.TheVariants as sorts
 use Rattle.plain_syntax.specs.Plain.{Text}
 use Rattle.prime_expand.specs.declared.both.Both.{Both}
-use Rattle.prime_expand.specs.Both.{same, leaf, unary, plains, primeds, part_at, one, two, temporal_}
+use Rattle.prime_expand.specs.Both.{same, unary, plains, primeds, part_at, one, two, temporal_}
 use Rattle.prime_expand.specs.Forms.{unchanged}
 
 abbrev pub is_word : Text → Text → Bool

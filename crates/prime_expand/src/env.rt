@@ -1,7 +1,6 @@
 //! What names mean where an expression stands.
 
 ghost use Rattle.std.specs.Prelude.{◌≡◌, ◌+◌, ◌∷◌, ◌++◌, [], drop, fold, map, IfOk, OnOk};
-
 ghost use Rattle.plain_syntax.specs.Syntax.{each_group, each_def};
 ghost use Rattle.prime_expand.specs.Both.{part_at};
 ghost use Rattle.prime_expand.specs.Core as spec;
@@ -128,12 +127,7 @@ impl Names<'_> {
     }
 
     /// Names are the variables of the binders from this depth on.
-    fn note_names(
-        &self,
-        frame: &mut Frame<'_>,
-        depth: u64,
-        names: &[Decl],
-    ) -> Result<(), Memory>
+    fn note_names(&self, frame: &mut Frame<'_>, depth: u64, names: &[Decl]) -> Result<(), Memory>
         ensures { OnOk result (frame_env self.now frame.new
             ≡ naming self.now depth names.now (frame_env self.now frame.old)) }
     {

@@ -11,7 +11,6 @@ use crate::both::Both;
 use crate::forms::unchanged;
 use crate::parts::{first, one, split, two};
 use core_expr::{Expr, Head, Memory, Sym, SymKind};
-
 use std::alloc::Global;
 use symbol_table::{Entry, EntrySort, Scoped};
 
@@ -128,8 +127,9 @@ fn over_arguments(
     args: Vec<Both>,
 ) -> Result<Both, Memory>
     ensures { IfOk result (λ b. b ≡ record {
-        plain = spec.applied kind number (plains args.items);
-        primed = spec.applied primed number (primeds args.items) }) }
+      plain = spec.applied kind number (plains args.items);
+      primed = spec.applied primed number (primeds args.items);
+    }) }
 {
     let (plains, primeds) = split(alloc, args)?;
     let plain = applied(alloc, kind, number, plains)?;
@@ -190,9 +190,7 @@ fn by_sort(alloc: Global, entry: &Entry, number: u64, args: Vec<Both>) -> Result
     ensures { IfOk result (λ b. b ≡ spec.by_sort entry.now.sort entry.now number args.items) }
 {
     match entry.sort {
-        EntrySort::State => {
-            over_arguments(alloc, SymKind::State, SymKind::Primed, number, args)
-        }
+        EntrySort::State => { over_arguments(alloc, SymKind::State, SymKind::Primed, number, args) }
         EntrySort::Definition => defined(alloc, entry, number, args),
         EntrySort::Constant => constant(alloc, number, args),
         EntrySort::Library => constant(alloc, number, args),

@@ -11,4 +11,4 @@ returns-in_default-next c =
     let g : guards all ≡ c.loop-part.guards.items = c.loop-part.invariant.guards ∙ ap (λ l. c.loop-part.guards.items ++ guards l) r ∙ append-nil c.loop-part.guards.items in
     let o = c.in_ok-other.ensures ∙ ap (λ gs. unary Not (joined Or False gs)) (sym g) in
     c.in_ok-push.ensures.items ∙ ap (λ a. c.loop-part.done.items ++ a ∷ []) (c.in_ok-arm.ensures ∙ ap (λ b. arm b c.in-Some.part) o)
-      ∙ sym (c.loop-part.invariant.arms ∙ ap (λ l. c.loop-part.done.items ++ arms (otherwise all) l) r)
+    ∙ sym (c.loop-part.invariant.arms ∙ ap (λ l. c.loop-part.done.items ++ arms (otherwise all) l) r)

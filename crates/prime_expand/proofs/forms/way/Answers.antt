@@ -1,8 +1,7 @@
-use Rattle.std.proofs.Common.{◌≡◌, ◌++◌, ◌∷◌, [], map, ap, sym, ◌∙◌}
+use Rattle.std.proofs.Common.{◌++◌, ◌∷◌, [], map, ap, sym, ◌∙◌}
 use Rattle.std.proofs.lemmas.List.{map-append}
 use Rattle.core_expr.specs.declared.head.Head.TheVariants.{Apply}
 use Rattle.prime_expand.specs.Both.{binary}
-use Rattle.prime_expand.specs.Forms.{way, along}
 use Rattle.prime_expand.proofs.Ways.{turned, way_last, along_last}
 use Rattle.prime_expand.proofs.forms.way.Goals as goal
 
@@ -11,7 +10,7 @@ loop-key-preserved c =
     let old = c.loop-key in
     record {
       turns =
-        ap (map turned) c.in_ok-push.ensures.items ∙ map-append turned old.turns.items _
+          ap (map turned) c.in_ok-push.ensures.items ∙ map-append turned old.turns.items _
           ∙ (λ i. old.invariant.turns i ++ (old.invariant.value i, c.in-Some.key) ∷ []) ∙ sym (way_last c.args.r old.yielded c.in-Some.key);
       value = c.in_ok-next.ensures ∙ ap (λ v. binary Apply v c.in-Some.key) old.invariant.value ∙ sym (along_last c.args.r old.yielded c.in-Some.key);
     }

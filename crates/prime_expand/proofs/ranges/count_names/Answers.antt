@@ -1,6 +1,6 @@
 use Rattle.std.proofs.Common.{rules, ◌≡◌, ◌+◌, ◌∷◌, drop, length, ap, sym, ◌∙◌, arith}
 use Rattle.std.proofs.lemmas.List.{drop_more}
-use Rattle.tla_ast.specs.declared.tree.Group.{Group, out-Group}
+use Rattle.tla_ast.specs.declared.tree.Group.{out-Group}
 use Rattle.plain_syntax.specs.Syntax.{each_group}
 use Rattle.prime_expand.specs.Core.{names_in}
 use Rattle.prime_expand.proofs.Envs.{names_first}

@@ -10,4 +10,4 @@ returns-in_default c =
     let l : length c.args.args.now ≤ n = search rules in
     let e : drop n c.args.args.now ≡ [] = drop_of_length-le c.args.args.now l in
     sym (c.loop-i.invariant ∙ ap (λ l. c.loop-i.found.items ++ flagged (drop n c.args.flags.now) l) e
-      ∙ ap (λ l. c.loop-i.found.items ++ l) (flagged-none (drop n c.args.flags.now)) ∙ append-nil c.loop-i.found.items)
+    ∙ ap (λ l. c.loop-i.found.items ++ l) (flagged-none (drop n c.args.flags.now)) ∙ append-nil c.loop-i.found.items)

@@ -1,6 +1,4 @@
-use Rattle.std.proofs.Common.{refl, sym, subst}
-use Rattle.std.specs.Prelude.{IfSome}
-use Rattle.core_expr.specs.Heads.{takes}
+use Rattle.std.proofs.Common.{refl}
 use Rattle.prime_expand.specs.Symbols.{prefix_heads}
 use Rattle.prime_expand.proofs.Heads.{taken}
 use Rattle.prime_expand.proofs.symbols.prefix_head.Goals as goal

@@ -1,6 +1,6 @@
-use Rattle.std.proofs.Common.{rules, ◌≡◌, ℕ, ◌+◌, ◌∷◌, drop, length, ap, sym, ◌∙◌}
+use Rattle.std.proofs.Common.{rules, ◌≡◌, ◌+◌, ◌∷◌, drop, length, ap, sym, ◌∙◌}
 use Rattle.std.proofs.lemmas.List.{drop_more}
-use Rattle.tla_ast.specs.declared.tree.Group.{Group, out-Group}
+use Rattle.tla_ast.specs.declared.tree.Group.{out-Group}
 use Rattle.plain_syntax.specs.Syntax.{each_group}
 use Rattle.prime_expand.specs.Env.{grouping, naming, frame_env}
 use Rattle.prime_expand.proofs.Envs.{grouping_first}
@@ -16,5 +16,5 @@ loop-group-preserved c =
     let d : c.in_ok-depth.depth ≡ c.loop-group.depth + length (out-Group g).names = c.in_ok-depth.ensures ∙ ap (λ n. c.loop-group.depth + n) c.len.ensures in
     let f : frame_env s c.note_names.new.frame ≡ naming s c.loop-group.depth (out-Group g).names (frame_env s c.loop-group.frame) = search rules in
     c.loop-group.invariant ∙ ap (λ l. grouping s c.loop-group.depth (each_group l) (frame_env s c.loop-group.frame)) e
-      ∙ grouping_first s c.loop-group.depth g (drop (i + 1) gs) (frame_env s c.loop-group.frame)
-      ∙ (λ j. grouping s (sym d j) (each_group (drop (i + 1) gs)) (sym f j))
+    ∙ grouping_first s c.loop-group.depth g (drop (i + 1) gs) (frame_env s c.loop-group.frame)
+    ∙ (λ j. grouping s (sym d j) (each_group (drop (i + 1) gs)) (sym f j))

@@ -17,7 +17,7 @@ returns-then-own-number c =
     let e = env_of s c.args.outer.now in
     let t : nat_eq c.in-Some.own c.args.number ≡ false = search rules in
     c.requires ∙ sym (ap (λ b. if b then Some (given (applied_def s c.args.def.now c.args.before.now a e)) else lookup (defining s a (each_def c.args.before.now) e) c.args.number) t)
-      ∙ sym (defined-more s a c.args.before.now c.args.def.now e c.args.number _ (sym c.symbol.ensures ∙ c.in-Some.is))
+    ∙ sym (defined-more s a c.args.before.now c.args.def.now e c.args.number _ (sym c.symbol.ensures ∙ c.in-Some.is))
 
 pub returns : goal.returns
 returns c =
@@ -26,4 +26,4 @@ returns c =
     let e = env_of s c.args.outer.now in
     let t : nat_eq c.in-Some.own c.args.number ≡ true = search rules in
     sym (ap (λ b. if b then Some (given (applied_def s c.args.def.now c.args.before.now a e)) else lookup (defining s a (each_def c.args.before.now) e) c.args.number) t)
-      ∙ sym (defined-more s a c.args.before.now c.args.def.now e c.args.number _ (sym c.symbol.ensures ∙ c.in-Some.is))
+    ∙ sym (defined-more s a c.args.before.now c.args.def.now e c.args.number _ (sym c.symbol.ensures ∙ c.in-Some.is))
