@@ -1,0 +1,4 @@
+mod Rows
+mod Heads
+mod Ways
+mod Envs

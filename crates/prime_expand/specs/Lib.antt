@@ -1,0 +1,5 @@
+pub mod Both
+pub mod Forms
+pub mod Symbols
+pub mod Core
+pub mod Env
