@@ -1,9 +1,0 @@
-mod Shadows
-mod Defining
-mod Visits
-mod Fields
-mod Steps
-mod Cited
-mod Proofs
-mod Turns
-mod Rows
