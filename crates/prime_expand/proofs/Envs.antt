@@ -1,7 +1,8 @@
 -- What names mean, once names, groups and definitions were met.
 use Rattle.std.proofs.Common.{◌≡◌, ℕ, ◌+◌, List, [], ◌∷◌, ◌++◌, map, fold, length, Option, Some, None, refl, ap, sym, ◌∙◌}
 use Rattle.std.specs.Borrow.{Bor}
-use Rattle.std.specs.Global.{Vec}
+use Rattle.std.specs.Global.{Vec, Global}
+use Rattle.std.specs.declared.rc.Rc.{Rc}
 use Rattle.tla_ast.specs.declared.tree.Decl.{Decl}
 use Rattle.tla_ast.specs.declared.tree.Node.{Node}
 use Rattle.tla_ast.specs.declared.tree.Group.{Group, out-Group}
@@ -17,10 +18,9 @@ use Rattle.prime_expand.specs.declared.env.Env.TheFolds.{fold-roll-Env}
 use Rattle.prime_expand.specs.declared.env.Env.TheOpen.{Env-F}
 use Rattle.prime_expand.specs.declared.env.Env.TheVariants as variants
 use Rattle.prime_expand.specs.declared.env.Standing as code
-use Rattle.core_expr.specs.declared.head.Binder.{Binder}
 use Rattle.prime_expand.specs.Core.{Meaning, Env, Standing, lookup, known_as, names_in}
 use Rattle.prime_expand.specs.Core.Meaning.{given}
-use Rattle.prime_expand.specs.Env.{means, naming, grouping, defining, env_of, env_step, pushed, pick, entry_of, standing_of, applied_def, core_at, arguing, bound_each, bound_once}
+use Rattle.prime_expand.specs.Env.{means, naming, grouping, defining, env_of, env_step, pushed, pick, entry_of, standing_of, applied_def, core_at, arguing}
 
 -- what is found among entries is what the last of them tells, or what was found before
 pub lookup-pushed : (n : ℕ) (es : List (ℕ × Meaning)) (e : Env) → lookup (pushed es e) n ≡ fold (pick n) (lookup e n) es
@@ -58,12 +58,12 @@ pub env-empty : (c : Names) → env_of c variants.Empty ≡ []
 unfolding env_of
 env-empty c = ap (env_of c) (sym variants.rolls-Empty) ∙ fold-roll-Env Env (env_step c) Env-F.Empty
 
-pub env-known : (c : Names) (ks : Vec Known) (o : Bor env.Env) → env_of c (variants.Known ks o) ≡ pushed (map entry_of ks.items) (env_of c o.now)
+pub env-known : (c : Names) (ks : Vec Known) (o : Rc env.Env Global) → env_of c (variants.Known ks o) ≡ pushed (map entry_of ks.items) (env_of c o.value)
 unfolding env_of
 env-known c ks o = ap (env_of c) (sym (variants.rolls-Known ks o)) ∙ fold-roll-Env Env (env_step c) (Env-F.Known ks o)
 
-pub env-definitions : (c : Names) (ds : Bor (List Def)) (a : code.Standing) (o : Bor env.Env)
-    → env_of c (variants.Definitions ds a o) ≡ defining c (standing_of a) (each_def ds.now) (env_of c o.now)
+pub env-definitions : (c : Names) (ds : Bor (List Def)) (a : Rc code.Standing Global) (o : Rc env.Env Global)
+    → env_of c (variants.Definitions ds a o) ≡ defining c (standing_of a.value) (each_def ds.now) (env_of c o.value)
 unfolding env_of
 env-definitions c ds a o = ap (env_of c) (sym (variants.rolls-Definitions ds a o)) ∙ fold-roll-Env Env (env_step c) (Env-F.Definitions ds a o)
 
@@ -73,7 +73,3 @@ names-step ns (Some n) rest = refl
 
 pub names_first : (g : Group) (gs : List Group) → names_in (each_group (g ∷ gs)) ≡ length (out-Group g).names + names_in (each_group gs)
 names_first g gs = ap (λ (f : Groups → Groups). names_in (f (each_group gs))) (is-group g) ∙ names-step (out-Group g).names (out-Group g).domain (each_group gs)
-
-pub bound_last : (b : Binder) (rs : List (Option Both)) (r : Option Both) (p : Both) → bound_each b (rs ++ r ∷ []) p ≡ bound_each b rs (bound_once b r p)
-bound_last b [] r p = refl
-bound_last b (q ∷ rs) r p = ap (bound_once b q) (bound_last b rs r p)

@@ -35,10 +35,10 @@ abbrev pub means : Names → Place → Option ℕ
 means c = symbol c.scoped.now c.home
 
 abbrev pub standing_of : code.Standing → Standing
-standing_of s = (s.depth, s.value.now)
+standing_of s = (s.depth, s.value)
 
 abbrev pub entry_of : Known → ℕ × Meaning
-entry_of k = (k.number, fixed (k.depth, k.value))
+entry_of k = (k.number, fixed (standing_of k.value))
 
 -- entries that come after others, one by one
 abbrev pub pushed : List (ℕ × Meaning) → Env → Env
@@ -72,14 +72,14 @@ module _ (c : Names) where
 
   abbrev pub env_step : Env-F Env → Env
   env_step Env-F.Empty = []
-  env_step (Env-F.Known ks outer) = pushed (map entry_of ks.items) outer.now
-  env_step (Env-F.Definitions ds a outer) = defining (standing_of a) (each_def ds.now) outer.now
+  env_step (Env-F.Known ks outer) = pushed (map entry_of ks.items) outer.value
+  env_step (Env-F.Definitions ds a outer) = defining (standing_of a.value) (each_def ds.now) outer.value
 
   unfoldable pub env_of : env.Env → Env
   env_of = env.fold-Env Env env_step
 
   abbrev pub frame_env : Frame → Env
-  frame_env f = pushed (map entry_of f.known.items) (env_of f.outer.now)
+  frame_env f = pushed (map entry_of f.known.items) (env_of f.outer.value)
 
   -- a definition of a LET by the depth of its use and its arguments
   abbrev pub applied_def : Def → List Def → Standing → Env → ℕ → List Both → Both
@@ -87,8 +87,8 @@ module _ (c : Names) where
 
   abbrev pub meaning : Found → Option Meaning
   meaning found.Nothing = None
-  meaning (found.Fixed s) = Some (fixed (standing_of s))
-  meaning (found.Definition d before a outer) = Some (given (applied_def d.now before.now (standing_of a) (env_of outer.now)))
+  meaning (found.Fixed s) = Some (fixed (standing_of s.now))
+  meaning (found.Definition d before a outer) = Some (given (applied_def d.now before.now (standing_of a.now.value) (env_of outer.now.value)))
 
 -- ---- nodes over the cores of their parts
 
@@ -135,65 +135,10 @@ operator_by c f p bs = temporal_
 abbrev pub operator : Names → Form → Place → List Both → Both
 operator c f = operator_by c (out-Form f)
 
--- ---- names of quantifiers
-
-abbrev pub bound_once : Binder → Option Both → Both → Both
-bound_once b None p = quantified b p
-bound_once b (Some s) p = bounded b s p
-
--- names over a body, the last innermost
-abbrev pub bound_each : Binder → List (Option Both) → Both → Both
-bound_each b [] p = p
-bound_each b (r ∷ rs) p = bound_once b r (bound_each b rs p)
-
--- the operands, which are uppermost on a stack, give way to the operator over them
-abbrev pub reduced : Names → Form → Place → ℕ → List Both → List Both
-reduced c f p k st = take (length st - k) st ++ operator c f p (drop (length st - k) st) ∷ []
-
--- ---- forms, by what they hold
+-- ---- names
 
 abbrev pub used_at : Names → Text → Env → Place → ℕ → List Both → Both
 used_at c = used (means c) (entries c)
 
 abbrev pub over_at : Names → Binder → Env → Standing → ℕ → Place → Terms → Both
 over_at c = over (means c) (entries c)
-
-abbrev pub keys_at : Names → Env → Standing → ℕ → Keys → List Both
-keys_at c = keys (means c) (entries c)
-
-abbrev pub update_at : Names → Env → Standing → ℕ → Both → Keys → Term → Both
-update_at c e a d r ks t = updated r (keys_at c e a d ks) (core_at c e (d, along r (keys_at c e a d ks)) d t)
-
-abbrev pub except_at : Names → Env → Standing → ℕ → List Keys → List Term → Both
-except_at c e a d ks [] = same true_
-except_at c e a d ks (t ∷ ts) = updates (means c) (entries c) e a d (core_at c e a d t) (updates_of ks ts)
-
-abbrev pub quantified_at : Names → Env → Standing → ℕ → Binder → Groups → Terms → Both
-quantified_at c e a d b gs ts = wrapped (means c) (entries c) e a d b gs (part_at 0 (cores_at c (grouping c d gs e) a (d + names_in gs) ts))
-
-abbrev pub set_at : Names → Env → Standing → ℕ → Option Node → Option Both
-set_at c e a d None = None
-set_at c e a d (Some n) = Some (core_at c e a d (term_of n))
-
--- the set of each of these names under its binder
-abbrev pub range_over : Names → Env → Standing → ℕ → List Decl → Option Node → List (Option Both)
-range_over c e a d [] o = []
-range_over c e a d (x ∷ xs) o = set_at c e a (suc d) o ∷ range_over c e a (suc d) xs o
-
-abbrev pub range : Names → Env → Standing → ℕ → Group → List (Option Both)
-range c e a d g = range_over c e a d (out-Group g).names (out-Group g).domain
-
-abbrev pub ranges : Names → Env → Standing → ℕ → List Group → List (Option Both)
-ranges c e a d [] = []
-ranges c e a d (g ∷ gs) = range c e a d g ++ ranges c e a (d + length (out-Group g).names) gs
-
-abbrev pub plain_by : {A B C D E F : Type 0} → Names → Env → Standing → ℕ → Form-F A B C D E F → Terms → Both
-plain_by c e a d (Form-F.Record hs) ts = record_of hs (seconds (cores_at c e a (suc d) ts))
-plain_by c e a d (Form-F.RecordSet hs) ts = records_of hs (seconds (cores_at c e a d ts)) (seconds (cores_at c e a (suc d) ts))
-plain_by c e a d (Form-F.Case other) ts = case_of (cores_at c e a (suc d) ts)
-plain_by c e a d Form-F.Form::At ts = at_depth d a
-plain_by c e a d f ts = flat_by f (cores_at c e a d ts)
-
--- a node that is no name and no operator, and binds nothing but in records and CASE
-abbrev pub plain_at : Names → Env → Standing → ℕ → Form → Terms → Both
-plain_at c e a d f = plain_by c e a d (out-Form f)

@@ -3,3 +3,4 @@ pub mod Forms
 pub mod Symbols
 pub mod Core
 pub mod Env
+pub mod Walk

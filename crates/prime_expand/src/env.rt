@@ -4,12 +4,14 @@ ghost use Rattle.std.specs.Prelude.{◌≡◌, ◌+◌, ◌∷◌, ◌++◌, [],
 ghost use Rattle.plain_syntax.specs.Syntax.{each_group, each_def};
 ghost use Rattle.prime_expand.specs.Both.{part_at};
 ghost use Rattle.prime_expand.specs.Core as spec;
+ghost use Rattle.prime_expand.specs.Core.{names_in};
 ghost use Rattle.prime_expand.specs.Core.Meaning.{fixed};
 ghost use Rattle.prime_expand.specs.Env.{means, naming, grouping, arguing, defining, env_of, frame_env, meaning, entry_of, standing_of, pick};
 
 use crate::both::Both;
 use core_expr::Memory;
 use std::alloc::Global;
+use std::rc::Rc;
 use std::vec::IntoIter;
 use symbol_table::Scoped;
 use tla_ast::{Decl, Def, Group, Place};
@@ -24,18 +26,17 @@ pub struct Names<'a> {
 }
 
 /// A core, and the depth of binders at which it stands.
-#[derive(Clone, Copy)]
-pub struct Standing<'a> {
+#[derive(Drop)]
+pub struct Standing {
     pub depth: u64,
-    pub value: &'a Both,
+    pub value: Both,
 }
 
-/// A name by its number, with the core that it stands for and the depth at which that stands.
+/// A name by its number, with the core that it stands for.
 #[derive(Drop)]
 pub struct Known {
     pub number: u64,
-    pub depth: u64,
-    pub value: Both,
+    pub value: Standing,
 }
 
 /// What the names that are bound round an expression mean.
@@ -45,13 +46,13 @@ pub enum Env<'a> {
     /// Bound names or parameters.
     Known {
         known: Vec<Known>,
-        outer: &'a Env<'a>,
+        outer: Rc<Env<'a>>,
     },
     /// The definitions of a LET, and what `@` is where it stands.
     Definitions {
         defs: &'a [Def],
-        at: Standing<'a>,
-        outer: &'a Env<'a>,
+        at: Rc<Standing>,
+        outer: Rc<Env<'a>>,
     },
 }
 
@@ -59,7 +60,7 @@ pub enum Env<'a> {
 #[derive(Drop)]
 pub struct Frame<'a> {
     pub known: Vec<Known>,
-    pub outer: &'a Env<'a>,
+    pub outer: Rc<Env<'a>>,
 }
 
 impl<'a> Frame<'a> {
@@ -74,16 +75,16 @@ impl<'a> Frame<'a> {
 
 /// What a name means.
 #[derive(Clone, Copy)]
-pub enum Found<'a> {
+pub enum Found<'e, 'a> {
     /// It is not bound here.
     Nothing,
-    Fixed(Standing<'a>),
+    Fixed(&'e Standing),
     /// A definition of a LET, with those before it, what `@` is there, and the names round the LET.
     Definition {
         def: &'a Def,
         before: &'a [Def],
-        at: Standing<'a>,
-        outer: &'a Env<'a>,
+        at: &'e Rc<Standing>,
+        outer: &'e Rc<Env<'a>>,
     },
 }
 
@@ -95,6 +96,18 @@ pub fn deeper(depth: u64, by: u64) -> Result<u64, Memory>
         Some(sum) => Ok(sum),
         None => Err(Memory),
     }
+}
+
+/// How many names there are in groups.
+#[tactic(auto, using(crate::proofs::Envs::names_first))]
+pub fn count_names(groups: &[Group]) -> Result<u64, Memory>
+    ensures { IfOk result (λ n. n ≡ names_in (each_group groups.now)) }
+{
+    let mut count = 0;
+    for group in groups {
+        count = deeper(count, group.names.len() as u64)?;
+    }
+    Ok(count)
 }
 
 impl Names<'_> {
@@ -117,11 +130,8 @@ impl Names<'_> {
             ≡ spec.known_as (means self.now place) (fixed (depth, value)) (frame_env self.now frame.old)) }
     {
         if let Some(number) = self.symbol(place) {
-            frame.known.push(Known {
-                number,
-                depth,
-                value,
-            })?;
+            let value = Standing { depth, value };
+            frame.known.push(Known { number, value })?;
         }
         Ok(())
     }
@@ -178,19 +188,19 @@ impl Names<'_> {
     }
 
     /// The meaning of a number where one definition more is known.
-    fn or_definition<'a>(
+    fn or_definition<'e, 'a>(
         &self,
-        found: Found<'a>,
+        found: Found<'e, 'a>,
         def: &'a Def,
         before: &'a [Def],
-        at: Standing<'a>,
-        outer: &'a Env<'a>,
+        at: &'e Rc<Standing>,
+        outer: &'e Rc<Env<'a>>,
         number: u64,
-    ) -> Found<'a>
-        requires { meaning self.now found ≡ spec.lookup (defining self.now (standing_of at)
-            (each_def before.now) (env_of self.now outer.now)) number }
-        ensures { meaning self.now result ≡ spec.lookup (defining self.now (standing_of at.entry)
-            (each_def (before.entry.now ++ def.entry.now ∷ [])) (env_of self.now outer.entry.now)) number }
+    ) -> Found<'e, 'a>
+        requires { meaning self.now found ≡ spec.lookup (defining self.now (standing_of at.now.value)
+            (each_def before.now) (env_of self.now outer.now.value)) number }
+        ensures { meaning self.now result ≡ spec.lookup (defining self.now (standing_of at.entry.now.value)
+            (each_def (before.entry.now ++ def.entry.now ∷ [])) (env_of self.now outer.entry.now.value)) number }
     {
         let Some(own) = self.symbol(def.place) else {
             return found;
@@ -207,17 +217,17 @@ impl Names<'_> {
     }
 
     /// The meaning of a number among definitions of a LET, the last that has it, or else what was found round them.
-    fn last_defined<'a>(
+    fn last_defined<'e, 'a>(
         &self,
-        found: Found<'a>,
+        found: Found<'e, 'a>,
         defs: &'a [Def],
-        at: Standing<'a>,
-        outer: &'a Env<'a>,
+        at: &'e Rc<Standing>,
+        outer: &'e Rc<Env<'a>>,
         number: u64,
-    ) -> Found<'a>
-        requires { meaning self.now found ≡ spec.lookup (env_of self.now outer.now) number }
-        ensures { meaning self.now result ≡ spec.lookup (defining self.now (standing_of at.entry)
-            (each_def defs.entry.now) (env_of self.now outer.entry.now)) number }
+    ) -> Found<'e, 'a>
+        requires { meaning self.now found ≡ spec.lookup (env_of self.now outer.now.value) number }
+        ensures { meaning self.now result ≡ spec.lookup (defining self.now (standing_of at.entry.now.value)
+            (each_def defs.entry.now) (env_of self.now outer.entry.now.value)) number }
     {
         let mut found = found;
         for (i, def) in defs.iter().enumerate() {
@@ -227,7 +237,7 @@ impl Names<'_> {
     }
 
     /// What the name of a number means. Takes as many levels of calls as there are binders, brackets and LETs round it.
-    pub fn find<'a>(&self, env: &'a Env<'a>, number: u64) -> Found<'a>
+    pub fn find<'e, 'a>(&self, env: &'e Env<'a>, number: u64) -> Found<'e, 'a>
         ensures { meaning self.now result ≡ spec.lookup (env_of self.now env.entry.now) number }
     {
         match env {
@@ -237,7 +247,7 @@ impl Names<'_> {
             }
             Env::Definitions { defs, at, outer } => {
                 let found = self.find(outer, number);
-                self.last_defined(found, defs, *at, outer, number)
+                self.last_defined(found, defs, at, outer, number)
             }
         }
     }
@@ -255,17 +265,14 @@ fn next_argument(alloc: Global, args: &mut IntoIter<Both>) -> Result<Both, Memor
 }
 
 /// The meaning of a number among known names, the last that has it, or else what was found round them.
-fn last_known<'a>(found: Found<'a>, known: &'a [Known], number: u64) -> Found<'a>
+fn last_known<'e, 'a>(found: Found<'e, 'a>, known: &'e [Known], number: u64) -> Found<'e, 'a>
     ensures { (names : Names) → meaning names result
         ≡ fold (pick number) (meaning names found.entry) (map entry_of known.entry.now) }
 {
     let mut found = found;
     for name in known {
         if name.number == number {
-            found = Found::Fixed(Standing {
-                depth: name.depth,
-                value: &name.value,
-            });
+            found = Found::Fixed(&name.value);
         }
     }
     found

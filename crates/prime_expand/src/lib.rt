@@ -6,11 +6,14 @@
 #![tactic(auto)]
 
 mod both;
+mod core;
 mod env;
 mod forms;
 mod operators;
 mod parts;
-mod ranges;
+mod task;
 mod symbols;
+mod walk;
 
 pub use both::Both;
+pub use core::to_core;

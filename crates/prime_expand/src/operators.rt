@@ -1,6 +1,6 @@
 //! Nodes over the cores of their parts.
 
-ghost use Rattle.std.specs.Prelude.{◌≡◌, length, IfOk, OnOk};
+ghost use Rattle.std.specs.Prelude.{◌≡◌, IfOk};
 ghost use Rattle.tla_ast.specs.declared.tree.Node.{out-Node};
 ghost use Rattle.prime_expand.specs.Env as spec;
 
@@ -93,16 +93,5 @@ impl Names<'_> {
             Form::Field(name) => field(alloc, name, parts),
             _ => Both::leaf(alloc, Head::Temporal),
         }
-    }
-
-    /// Puts an operator over its operands, which are uppermost on the stack.
-    pub fn reduce(&self, stack: &mut Vec<Both>, node: &Node) -> Result<(), Memory>
-        ensures { OnOk result (stack.new.items ≡ spec.reduced self.now (out-Node node.now).form
-            (out-Node node.now).place (length (out-Node node.now).parts) stack.old.items) }
-    {
-        let left = stack.len().saturating_sub(node.parts.len());
-        let parts = stack.split_off(left)?;
-        stack.push(self.operator(node, parts)?)?;
-        Ok(())
     }
 }

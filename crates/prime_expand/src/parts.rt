@@ -1,6 +1,6 @@
 //! Lists of pairs.
 
-ghost use Rattle.std.specs.Prelude.{◌≡◌, ℕ, take, IsTrue, IfOk, OnOk};
+ghost use Rattle.std.specs.Prelude.{◌≡◌, ℕ, take, drop, IsTrue, IfOk, OnOk};
 ghost use Rattle.core_expr.specs.Heads.{takes};
 ghost use Rattle.prime_expand.specs.Both as spec;
 
@@ -21,6 +21,23 @@ fn take_at(alloc: Global, parts: &mut Vec<Both>, at: usize) -> Result<Both, Memo
         Some(part) => Ok(part),
         None => Both::truth(alloc),
     }
+}
+
+/// The parts before a place, and those from there on.
+pub fn split_at(
+    alloc: Global,
+    parts: Vec<Both>,
+    at: usize,
+) -> Result<(Vec<Both>, Vec<Both>), Memory>
+    ensures { IfOk result (λ p. (p.0.items ≡ take at parts.items) × (p.1.items ≡ drop at parts.items)) }
+{
+    let mut parts = parts;
+    if parts.len() <= at {
+        let none = Vec::new(alloc);
+        return Ok((parts, none));
+    }
+    let rest = parts.split_off(at)?;
+    Ok((parts, rest))
 }
 
 /// The first part.

@@ -13,7 +13,7 @@ returns-in-Known t c =
     let n = c.args.number in
     let es = map entry_of c.in-Known.known.items in
     let k : c.as_slice.result.now ≡ c.in-Known.known.items = search rules in
-    c.last_known.ensures s ∙ (λ i. fold (pick n) (c.find.ensures i) (map entry_of (k i))) ∙ sym (lookup-pushed n es (env_of s c.in-Known.outer.now))
+    c.last_known.ensures s ∙ (λ i. fold (pick n) ((c.find.ensures ∙ ap (λ e. lookup (env_of s e) n) c.deref.ensures) i) (map entry_of (k i))) ∙ sym (lookup-pushed n es (env_of s c.in-Known.outer.value))
     ∙ sym (ap (λ e. lookup e n) (ap (env_of s) c.in-Known.is ∙ env-known s c.in-Known.known c.in-Known.outer))
 
 pub returns-in-Definitions : goal.returns-in-Definitions

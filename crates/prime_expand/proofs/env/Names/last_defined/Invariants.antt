@@ -5,4 +5,4 @@ use Rattle.prime_expand.specs.Env.{defining, meaning, standing_of, env_of}
 use Rattle.prime_expand.proofs.env.Names.last_defined.Given as goal
 
 abbrev pub invariant-loop-i : goal.invariant-loop-i
-invariant-loop-i l = meaning l.self l.found ≡ lookup (defining l.self (standing_of l.at) (each_def (take l.i l.defs)) (env_of l.self l.outer)) l.number
+invariant-loop-i l = meaning l.self l.found ≡ lookup (defining l.self (standing_of l.at.value) (each_def (take l.i l.defs)) (env_of l.self l.outer.value)) l.number

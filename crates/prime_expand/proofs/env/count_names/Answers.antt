@@ -4,7 +4,7 @@ use Rattle.tla_ast.specs.declared.tree.Group.{out-Group}
 use Rattle.plain_syntax.specs.Syntax.{each_group}
 use Rattle.prime_expand.specs.Core.{names_in}
 use Rattle.prime_expand.proofs.Envs.{names_first}
-use Rattle.prime_expand.proofs.ranges.count_names.Goals as goal
+use Rattle.prime_expand.proofs.env.count_names.Goals as goal
 
 pub loop-group-preserved : goal.loop-group-preserved
 loop-group-preserved c =
