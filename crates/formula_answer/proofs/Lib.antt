@@ -1,1 +1,6 @@
-
+pub mod Keys
+pub mod Rows
+pub mod Stacks
+pub mod Places
+pub mod Numbers
+pub mod Meant

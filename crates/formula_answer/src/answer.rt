@@ -48,6 +48,7 @@ fn answer_over(
 
 /// The answer of the written search to a propositional statement. Each symbol without arguments counts as one, of whatever
 /// kind. Want of memory is the only other answer.
+#[tactic(auto, using(crate::proofs::Meant::order_is, crate::proofs::Meant::answer_is, crate::proofs::Meant::values_are))]
 pub fn answer_to(alloc: Global, statement: &Expr) -> Result<Answered, Memory>
     requires { is_propositional statement.now ≡ true }
     ensures answer { IfOk result (λ a. a.answer ≡ answer statement.now) }

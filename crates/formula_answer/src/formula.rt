@@ -4,7 +4,7 @@ ghost use Rattle.std.specs.List.{All};
 ghost use Rattle.propositional_search.specs.Nodes.{tree_at, Keeps};
 ghost use Rattle.core_expr.specs.Tree.{not_};
 ghost use Rattle.core_expr.specs.Flat.{top, rest};
-ghost use Rattle.formula_answer.specs.Nodes.{trees_at, joined, headed, numeral_of, stacked, stack_of};
+ghost use Rattle.formula_answer.specs.Nodes.{trees_at, joined_by, joined, headed, numeral_of, stacked, stack_of};
 
 use crate::order::place_of;
 use core_expr::{Expr, Head, Memory, RowKind, Sym};
@@ -60,7 +60,30 @@ enum Connective {
     Iff,
 }
 
+/// The place of the formula that a connective makes of two.
+fn connect(
+    formulas: &mut Formulas,
+    connective: Connective,
+    two: Operands,
+) -> Result<usize, Memory>
+    requires left { two.left < length formulas.old }
+    requires right { two.right < length formulas.old }
+    ensures longer { length formulas.old ≤ length formulas.new }
+    ensures keeps { Keeps formulas.old formulas.new }
+    ensures within { IfOk result (λ i. i < length formulas.new) }
+    ensures tree { IfOk result (λ i. tree_at formulas.new i
+        ≡ joined_by connective (tree_at formulas.old two.left) (tree_at formulas.old two.right)) }
+{
+    match connective {
+        Connective::And => formulas.and(two.left, two.right),
+        Connective::Or => formulas.or(two.left, two.right),
+        Connective::Implies => formulas.implies(two.left, two.right),
+        Connective::Iff => formulas.iff(two.left, two.right),
+    }
+}
+
 /// The place of the formula that a connective makes of the upper two, which it takes off the stack.
+#[tactic(auto, using(crate::proofs::Stacks::trees_kept))]
 fn join(
     formulas: &mut Formulas,
     stack: &mut Vec<usize>,
@@ -72,15 +95,11 @@ fn join(
     ensures formulas { IfOk result (λ i. tree_at formulas.new i ∷ trees_at formulas.new stack.new.items ≡ joined connective (trees_at formulas.old stack.old.items)) }
 {
     let two = take_two(formulas, stack)?;
-    match connective {
-        Connective::And => formulas.and(two.left, two.right),
-        Connective::Or => formulas.or(two.left, two.right),
-        Connective::Implies => formulas.implies(two.left, two.right),
-        Connective::Iff => formulas.iff(two.left, two.right),
-    }
+    connect(formulas, connective, two)
 }
 
 /// The place of the negation of the uppermost formula, which it takes off the stack.
+#[tactic(auto, using(crate::proofs::Stacks::trees_kept))]
 fn negate(formulas: &mut Formulas, stack: &mut Vec<usize>) -> Result<usize, Memory>
     requires { All (λ i. i < length formulas.old) stack.old.items }
     ensures within { IfOk result (λ i. i < length formulas.new) }
@@ -93,6 +112,7 @@ fn negate(formulas: &mut Formulas, stack: &mut Vec<usize>) -> Result<usize, Memo
 
 /// The place of the formula that a node with this head makes of its operands, which it takes off the stack. A head that no
 /// propositional formula has makes TRUE.
+#[tactic(auto, using(crate::proofs::Stacks::trees_kept))]
 fn place_of_head(
     formulas: &mut Formulas,
     stack: &mut Vec<usize>,
@@ -132,6 +152,7 @@ fn place_of_symbol(
 }
 
 /// The place of the formula that a node of this kind makes of its operands, which it takes off the stack.
+#[tactic(auto, using(crate::proofs::Stacks::trees_kept))]
 fn place_of_kind(
     formulas: &mut Formulas,
     stack: &mut Vec<usize>,
@@ -167,6 +188,7 @@ fn push_kind(
 }
 
 /// The place of the formula of a statement, each symbol the canonical symbol of its place in the order.
+#[tactic(auto, using(crate::proofs::Rows::next, crate::proofs::Rows::finish))]
 pub fn formula_of(
     alloc: Global,
     formulas: &mut Formulas,

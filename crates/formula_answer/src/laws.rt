@@ -7,6 +7,7 @@ use tableau_definition::{
 };
 
 /// A proved statement has a derivation in the calculus from nothing, and no valuation of its symbols falsifies it.
+#[tactic(auto, using(crate::proofs::Meant::derives, crate::proofs::Meant::valid))]
 pub fn proved_holds()
     ensures derives { ProvedDerives }
     ensures valid { ProvedIsValid }
@@ -17,6 +18,7 @@ pub fn proved_holds()
 }
 
 /// The values of a saturated answer falsify the canonical form of the statement, and the statement itself.
+#[tactic(auto, using(crate::proofs::Meant::falsifies, crate::proofs::Meant::refutes))]
 pub fn saturated_falsifies()
     ensures form { SaturatedFalsifies }
     ensures statement { SaturatedRefutes }
@@ -27,6 +29,7 @@ pub fn saturated_falsifies()
 
 /// The turns suffice for a statement of at most 15 connectives. It is proved exactly where no valuation falsifies its
 /// canonical form, and exactly where none falsifies the statement itself.
+#[tactic(auto, using(crate::proofs::Meant::ends, crate::proofs::Meant::decides, crate::proofs::Meant::decides_statement))]
 pub fn few_connectives_are_decided()
     ensures end { FewConnectivesEnd }
     ensures form { FewConnectivesDecideForm }

@@ -9,6 +9,7 @@ use indexmap::IndexSet;
 use std::alloc::{AllocError, Global};
 
 /// Notes the symbol of a node of this kind, if it is a new one.
+#[tactic(auto, using(crate::proofs::Keys::key_noted))]
 fn note(order: &mut IndexSet<Sym>, kind: RowKind) -> Result<(), AllocError>
     ensures { OnOk result (order.new.keys ≡ noted order.old.keys kind) }
 {
@@ -20,6 +21,7 @@ fn note(order: &mut IndexSet<Sym>, kind: RowKind) -> Result<(), AllocError>
 
 /// The different symbols of a statement by first occurrence, as its nodes come. Where symbols have no arguments, that is
 /// the order of prefix notation.
+#[tactic(auto, using(crate::proofs::Rows::next, crate::proofs::Rows::finish))]
 pub fn order_of(alloc: Global, statement: &Expr) -> Result<IndexSet<Sym>, AllocError>
     ensures { IfOk result (λ o. o.keys ≡ over_rows noted [] (rows_of statement.now)) }
 {
@@ -31,6 +33,7 @@ pub fn order_of(alloc: Global, statement: &Expr) -> Result<IndexSet<Sym>, AllocE
 }
 
 /// The place of a symbol in the order.
+#[tactic(auto, using(crate::proofs::Keys::position_placed))]
 pub fn place_of(order: &IndexSet<Sym>, symbol: Sym) -> Option<usize>
     ensures { result ≡ place_from 0 order.now.keys symbol }
 {
