@@ -4,3 +4,4 @@ pub mod Stacks
 pub mod Places
 pub mod Numbers
 pub mod Meant
+pub mod Worked

@@ -1,6 +1,6 @@
 -- The answer to a statement, and what answers mean: derivations, valuations, enough turns.
-use Rattle.std.specs.Prelude.{◌≡◌, ◌≤◌, ◌+◌, ◌^◌, ℕ, zero, suc, Bool, true, false, Option, Some, None, slice_get, List, [], ◌∷◌, ◌++◌, length}
-use Rattle.std.proofs.Common.{refl, ap, sym, ◌∙◌, arith, subst, lit<, lit≤, le_trans, append_nil}
+use Rattle.std.specs.Prelude.{◌≡◌, ◌≤◌, ◌+◌, ◌^◌, ℕ, zero, suc, Bool, true, false, Option, Some, None, slice_get, List, [], ◌∷◌, length}
+use Rattle.std.proofs.Common.{refl, ap, sym, ◌∙◌, arith, subst, lit<, lit≤, le_trans, append-nil}
 use Rattle.std.proofs.Math.Nat.{pow-le-pow_right}
 use Rattle.core_expr.specs.declared.head.Sym.{Sym}
 use Rattle.core_expr.specs.Tree.{Tree}
@@ -20,29 +20,27 @@ use Rattle.propositional_search.specs.declared.search.Answer.TheVariants.{Proved
 use Rattle.propositional_search.specs.Answers.{valuation, valuation_from}
 use Rattle.formula_answer.specs.Canonical.{symbol_order, place_from, canonical}
 use Rattle.formula_answer.specs.Answer.{numeral, turn_limit, answer_for, end_of, answer, is_proved, HasValues}
-use Rattle.formula_answer.specs.Nodes.{over_rows, noted, stacked, stack_of}
-use Rattle.formula_answer.specs.Laws.{by_order, IsValid, ProvedDerives, ProvedIsValid, SaturatedFalsifies, SaturatedRefutes, FewConnectivesEnd, FewConnectivesDecideForm, FewConnectivesDecide}
+use Rattle.formula_answer.specs.Nodes.{over_rows, noted, stacked, stack_of, answer_over}
+use Rattle.formula_answer.specs.Laws.{IsValid, ProvedDerives, ProvedIsValid, SaturatedFalsifies, SaturatedRefutes, FewConnectivesEnd, FewConnectivesDecideForm, FewConnectivesDecide}
 use Rattle.formula_answer.proofs.Numbers.{canonical-numbers, rows-noted, rows-stacked, to_symbols, back, counts, same-value, closed, formula, below}
 
 -- the symbols that are noted are those of the statement, in its order
 pub order_is : (t : Tree) (keys : List Sym) → is_propositional t ≡ true → IsWellFormed t → keys ≡ over_rows noted [] (rows_of t) → keys ≡ symbol_order t
 unfolding symbol_order
 order_is t keys p w e =
-    e ∙ ap (over_rows noted []) (sym (append_nil (rows_of t))) ∙ rows-noted (symbol_order t) (canonical-numbers t p w) 0 [] [] (λ seen. refl) []
+    e ∙ ap (over_rows noted []) (sym (append-nil (rows_of t))) ∙ rows-noted (symbol_order t) (canonical-numbers t p w) 0 [] [] (λ seen. refl) []
 
 -- over them the nodes give the canonical form
 form-is : (t : Tree) → is_propositional t ≡ true → IsWellFormed t → top (stack_of (symbol_order t) t) ≡ canonical t
 form-is t p w =
     let order = symbol_order t in
-    ap (λ rs. top (over_rows (stacked order) [] rs)) (sym (append_nil (rows_of t))) ∙ ap top (rows-stacked order (canonical-numbers t p w) 0 [] [])
+    ap (λ rs. top (over_rows (stacked order) [] rs)) (sym (append-nil (rows_of t))) ∙ ap top (rows-stacked order (canonical-numbers t p w) 0 [] [])
 
 -- so the answer over them is that to the statement
-pub answer_is : (t : Tree) (keys : List Sym) (a : Answer) → is_propositional t ≡ true → IsWellFormed t → keys ≡ over_rows noted [] (rows_of t)
-    → a ≡ answer_for (length keys) (search false (length keys) [] (top (stack_of keys t)) turn_limit) → a ≡ answer t
+pub answer_is : (t : Tree) (keys : List Sym) (a : Answer) → is_propositional t ≡ true → IsWellFormed t → keys ≡ over_rows noted [] (rows_of t) → a ≡ answer_over keys t → a ≡ answer t
 unfolding end_of
 answer_is t keys a p w e h =
-    let o = order_is t keys p w e in
-    h ∙ ap (λ k. answer_for (length k) (search false (length k) [] (top (stack_of k t)) turn_limit)) o
+    h ∙ ap (λ k. answer_over k t) (order_is t keys p w e)
     ∙ ap (λ f. answer_for (length (symbol_order t)) (search false (length (symbol_order t)) [] f turn_limit)) (form-is t p w)
 
 length-values : (k n : ℕ) (b : Branch) → length (valuation_from k n b) ≡ n
@@ -126,34 +124,26 @@ decides propositional t p w few =
     let d = propositional false (length order) [] (canonical t) turn_limit tt (formula order (canonical-numbers t p w)) (enough t p w few) in
     ((λ h. d.0 (proved-end (length order) (end_of t) h)), λ h. ap (λ e. is_proved (answer_for (length order) e)) (d.1 h).1)
 
-value-at : Option ℕ → Valuation → Bool
-value-at None v = false
-value-at (Some i) v = v (canon_sym i 0)
-
 -- the value of a symbol is that of its canonical symbol
 by-places : List Sym → Valuation → Valuation
-by-places order v f = value-at (place_from 0 order f) v
-
-value-of : Option Sym → Valuation → Bool
-value-of None w = false
-value-of (Some f) w = w f
+by-places order v f = elim (place_from 0 order f) [ None ↦ false | Some i ↦ v (canon_sym i 0) ]
 
 -- the value of a canonical symbol is that of its symbol
 by-symbols : List Sym → Valuation → Valuation
-by-symbols order w f = value-of (slice_get order f.number) w
+by-symbols order w f = elim (slice_get order f.number) [ None ↦ false | Some g ↦ w g ]
 
 value-form : (t : Tree) → is_propositional t ≡ true → IsWellFormed t → (v : Valuation) → value_under v (canonical t) ≡ value_under (by-places (symbol_order t) v) t
-unfolding by-places value-at
-value-form t p w v = same-value (symbol_order t) v (by-places (symbol_order t) v) (λ f i h. sym (ap (λ o. value-at o v) h.0)) (canonical-numbers t p w)
+unfolding by-places
+value-form t p w v = same-value (symbol_order t) v (by-places (symbol_order t) v) (λ f i h. sym (ap (λ (o : Option ℕ). elim o [ None ↦ false | Some j ↦ v (canon_sym j 0) ]) h.0)) (canonical-numbers t p w)
 
 valid-form : (t : Tree) → is_propositional t ≡ true → IsWellFormed t → IsValid t → IsValid (canonical t)
 valid-form t p w h v k = h (by-places (symbol_order t) v) (tt, sym (value-form t p w v) ∙ k.1)
 
 valid-statement : (t : Tree) → is_propositional t ≡ true → IsWellFormed t → IsValid (canonical t) → IsValid t
-unfolding by-symbols value-of
+unfolding by-symbols
 valid-statement t p w h v k =
     let order = symbol_order t in
-    h (by-symbols order v) (tt, same-value order (by-symbols order v) v (λ f i e. ap (λ o. value-of o v) e.1) (canonical-numbers t p w) ∙ k.1)
+    h (by-symbols order v) (tt, same-value order (by-symbols order v) v (λ f i e. ap (λ (o : Option Sym). elim o [ None ↦ false | Some g ↦ v g ]) e.1) (canonical-numbers t p w) ∙ k.1)
 
 pub valid : ClosedIsValid → ProvedIsValid
 unfolding end_of
@@ -166,8 +156,5 @@ pub decides_statement : FewConnectivesDecideForm → FewConnectivesDecide
 decides_statement form t p w few = let d = form t p w few in ((λ h. valid-statement t p w (d.0 h)), λ h. d.1 (valid-form t p w h))
 
 pub refutes : SaturatedFalsifies → SaturatedRefutes
-unfolding by-places value-at
-refutes falsified t p w values turns h = (tt, same t ∙ sym (value-form t p w (by_number values)) ∙ (falsified t p w values turns h).1)
-  where
-    same : (t : Tree) → value_under (by_order (symbol_order t) values) t ≡ value_under (by-places (symbol_order t) (by_number values)) t
-    same t = ap (λ v. value_under v t) ?
+unfolding by-places
+refutes falsified t p w values turns h = (tt, sym (value-form t p w (by_number values)) ∙ (falsified t p w values turns h).1)

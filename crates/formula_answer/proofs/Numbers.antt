@@ -94,7 +94,7 @@ after-one seen f l = go (stands_in seen f)
     go false = refl
 
 -- the nodes of a formula have its symbols, in prefix order
-rows-noted : (order : List Sym) {t u : Tree} → Numbers order t u → (d : ℕ) (rs : List Row) (l : List Sym) → ((seen : List Sym) → over_rows noted seen rs ≡ in_order_after seen l)
+pub rows-noted : (order : List Sym) {t u : Tree} → Numbers order t u → (d : ℕ) (rs : List Row) (l : List Sym) → ((seen : List Sym) → over_rows noted seen rs ≡ in_order_after seen l)
     → (seen : List Sym) → over_rows noted seen (rows_at d t ++ rs) ≡ in_order_after seen (symbols t l)
 rows-noted order (n_symbol f i p) d rs l h seen = h (in_order_after seen (f ∷ [])) ∙ after-one seen f l
 rows-noted order n_true d rs l h seen = h seen
@@ -110,7 +110,7 @@ headed-two connective.Implies x y st = refl
 headed-two connective.Iff x y st = refl
 
 -- the nodes of a formula put it over canonical symbols on the stack
-rows-stacked : (order : List Sym) {t u : Tree} → Numbers order t u → (d : ℕ) (rs : List Row) (st : List Tree) → over_rows (stacked order) st (rows_at d t ++ rs) ≡ over_rows (stacked order) (u ∷ st) rs
+pub rows-stacked : (order : List Sym) {t u : Tree} → Numbers order t u → (d : ℕ) (rs : List Row) (st : List Tree) → over_rows (stacked order) st (rows_at d t ++ rs) ≡ over_rows (stacked order) (u ∷ st) rs
 rows-stacked order (n_symbol f i p) d rs st = ap (λ o. over_rows (stacked order) (numeral_at o ∷ st) rs) p.0
 rows-stacked order n_true d rs st = refl
 rows-stacked order n_false d rs st = refl

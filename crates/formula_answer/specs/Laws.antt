@@ -19,7 +19,7 @@ by_order order values s = elim (place_from 0 order s) [ None ↦ false | Some i 
 abbrev pub IsValid : Tree → Type 0
 IsValid t = (v : Valuation) → Falsifies v [] t → ⊥
 
--- so it is for every statement: a propositional formula whose symbols stand with as many arguments as they have, none
+-- P holds of every statement: a propositional formula that is well formed, so that its symbols have arity 0
 abbrev pub OfStatements : (Tree → Type 0) → Type 0
 OfStatements P = (t : Tree) → is_propositional t ≡ true → IsWellFormed t → P t
 

@@ -1,5 +1,5 @@
 -- The nodes of a propositional formula, one after another: its symbols, and the formula that they make over canonical symbols.
-use Rattle.std.specs.Prelude.{ℕ, Option, Some, None, List, [], ◌∷◌, map, fold, reverse}
+use Rattle.std.specs.Prelude.{ℕ, false, Option, Some, None, List, [], ◌∷◌, map, fold, reverse, length}
 use Rattle.core_expr.specs.declared.head.Sym.{Sym}
 use Rattle.core_expr.specs.declared.head.Head.{Head}
 use Rattle.core_expr.specs.declared.head.Head.TheVariants.{True, False, Not, And, Or, Imp, Iff}
@@ -10,9 +10,11 @@ use Rattle.core_expr.specs.Tree.{Tree, true_, false_, not_}
 use Rattle.core_expr.specs.Tree.Tree.{node}
 use Rattle.core_expr.specs.Tree.Parts.{end, part}
 use Rattle.core_expr.specs.Flat.{rows_of, top, rest}
+use Rattle.tableau_definition.specs.Search.{search}
 use Rattle.propositional_search.specs.declared.node.Node.{Node}
+use Rattle.propositional_search.specs.declared.search.Answer.{Answer}
 use Rattle.propositional_search.specs.Nodes.{tree_at}
-use Rattle.formula_answer.specs.Answer.{numeral}
+use Rattle.formula_answer.specs.Answer.{numeral, turn_limit, answer_for}
 use Rattle.formula_answer.specs.Canonical.{in_order_after, place_from}
 use Rattle.formula_answer.specs.declared.formula.Connective.{Connective}
 use Rattle.formula_answer.specs.declared.formula.Connective.TheVariants as connective
@@ -77,3 +79,7 @@ stacked order st (Binding b) = true_ ∷ st
 -- the stack of formulas once all nodes are read
 abbrev pub stack_of : List Sym → Tree → List Tree
 stack_of order t = over_rows (stacked order) [] (rows_of t)
+
+-- the answer to the formula that the nodes make
+abbrev pub answer_over : List Sym → Tree → Answer
+answer_over order t = answer_for (length order) (search false (length order) [] (top (stack_of order t)) turn_limit)

@@ -1,12 +1,10 @@
 //! The answer to a statement.
-ghost use Rattle.std.specs.Prelude.{◌≡◌, [], true, false, length, IfOk};
-ghost use Rattle.tableau_definition.specs.Search.{search};
-ghost use Rattle.core_expr.specs.Flat.{top};
+ghost use Rattle.std.specs.Prelude.{◌≡◌, true, length, IfOk};
 ghost use Rattle.core_expr.specs.Heads.{IsWellFormed};
 ghost use Rattle.valuation.specs.Truth.{is_propositional};
-ghost use Rattle.formula_answer.specs.Nodes.{stack_of};
+ghost use Rattle.formula_answer.specs.Nodes.{answer_over};
 ghost use Rattle.formula_answer.specs.Canonical.{symbol_order};
-ghost use Rattle.formula_answer.specs.Answer.{HasValues, answer, answer_for, is_proved, turn_limit};
+ghost use Rattle.formula_answer.specs.Answer.{HasValues, answer, is_proved};
 
 use crate::formula::formula_of;
 use crate::order::order_of;
@@ -32,14 +30,9 @@ pub fn is_proved(answer: &Answer) -> bool
     matches!(answer, Answer::Proved { .. })
 }
 
-/// The answer of the written search to the formula of a statement, each symbol the canonical symbol of its place in the
-/// order.
-fn answer_over(
-    alloc: Global,
-    order: &IndexSet<Sym>,
-    statement: &Expr,
-) -> Result<Answer, Memory>
-    ensures { IfOk result (λ a. a ≡ answer_for (length order.now.keys) (search false (length order.now.keys) [] (top (stack_of order.now.keys statement.now)) turn_limit)) }
+/// The answer of the written search to the formula of a statement over the canonical symbols of the order.
+fn answer_over(alloc: Global, order: &IndexSet<Sym>, statement: &Expr) -> Result<Answer, Memory>
+    ensures { IfOk result (λ a. a ≡ answer_over order.now.keys statement.now) }
 {
     let mut formulas = Formulas::new(alloc);
     let goal = formula_of(alloc, &mut formulas, order, statement)?;

@@ -2,7 +2,7 @@
 ghost use Rattle.std.specs.Prelude.{◌≡◌, ◌<◌, ◌≤◌, ◌∷◌, length, IfOk, OnOk};
 ghost use Rattle.std.specs.List.{All};
 ghost use Rattle.propositional_search.specs.Nodes.{tree_at, Keeps};
-ghost use Rattle.core_expr.specs.Tree.{not_};
+ghost use Rattle.core_expr.specs.declared.head.Head.TheVariants.{Not};
 ghost use Rattle.core_expr.specs.Flat.{top, rest};
 ghost use Rattle.formula_answer.specs.Nodes.{trees_at, joined_by, joined, headed, numeral_of, stacked, stack_of};
 
@@ -19,8 +19,10 @@ fn take_top(formulas: &mut Formulas, stack: &mut Vec<usize>) -> Result<usize, Me
     ensures keeps { Keeps formulas.old formulas.new }
     ensures within { IfOk result (λ i. i < length formulas.new) }
     ensures stack { All (λ i. i < length formulas.new) stack.new.items }
-    ensures top { IfOk result (λ i. tree_at formulas.new i ≡ top (trees_at formulas.old stack.old.items)) }
-    ensures rest { trees_at formulas.new stack.new.items ≡ rest 1 (trees_at formulas.old stack.old.items) }
+    ensures top { IfOk result (λ i.
+        tree_at formulas.new i ≡ top (trees_at formulas.old stack.old.items)) }
+    ensures rest { trees_at formulas.new stack.new.items
+        ≡ rest 1 (trees_at formulas.old stack.old.items) }
 {
     match stack.pop() {
         Some(place) => Ok(place),
@@ -42,9 +44,12 @@ fn take_two(formulas: &mut Formulas, stack: &mut Vec<usize>) -> Result<Operands,
     ensures left { IfOk result (λ o. o.left < length formulas.new) }
     ensures right { IfOk result (λ o. o.right < length formulas.new) }
     ensures stack { All (λ i. i < length formulas.new) stack.new.items }
-    ensures top { IfOk result (λ o. tree_at formulas.new o.right ≡ top (trees_at formulas.old stack.old.items)) }
-    ensures second { IfOk result (λ o. tree_at formulas.new o.left ≡ top (rest 1 (trees_at formulas.old stack.old.items))) }
-    ensures rest { OnOk result (trees_at formulas.new stack.new.items ≡ rest 2 (trees_at formulas.old stack.old.items)) }
+    ensures top { IfOk result (λ o.
+        tree_at formulas.new o.right ≡ top (trees_at formulas.old stack.old.items)) }
+    ensures second { IfOk result (λ o.
+        tree_at formulas.new o.left ≡ top (rest 1 (trees_at formulas.old stack.old.items))) }
+    ensures rest { OnOk result (trees_at formulas.new stack.new.items
+        ≡ rest 2 (trees_at formulas.old stack.old.items)) }
 {
     let right = take_top(formulas, stack)?;
     let left = take_top(formulas, stack)?;
@@ -61,11 +66,7 @@ enum Connective {
 }
 
 /// The place of the formula that a connective makes of two.
-fn connect(
-    formulas: &mut Formulas,
-    connective: Connective,
-    two: Operands,
-) -> Result<usize, Memory>
+fn connect(formulas: &mut Formulas, connective: Connective, two: Operands) -> Result<usize, Memory>
     requires left { two.left < length formulas.old }
     requires right { two.right < length formulas.old }
     ensures longer { length formulas.old ≤ length formulas.new }
@@ -92,7 +93,9 @@ fn join(
     requires { All (λ i. i < length formulas.old) stack.old.items }
     ensures within { IfOk result (λ i. i < length formulas.new) }
     ensures stack { OnOk result (All (λ i. i < length formulas.new) stack.new.items) }
-    ensures formulas { IfOk result (λ i. tree_at formulas.new i ∷ trees_at formulas.new stack.new.items ≡ joined connective (trees_at formulas.old stack.old.items)) }
+    ensures formulas { IfOk result (λ i.
+        tree_at formulas.new i ∷ trees_at formulas.new stack.new.items
+        ≡ joined connective (trees_at formulas.old stack.old.items)) }
 {
     let two = take_two(formulas, stack)?;
     connect(formulas, connective, two)
@@ -104,7 +107,9 @@ fn negate(formulas: &mut Formulas, stack: &mut Vec<usize>) -> Result<usize, Memo
     requires { All (λ i. i < length formulas.old) stack.old.items }
     ensures within { IfOk result (λ i. i < length formulas.new) }
     ensures stack { OnOk result (All (λ i. i < length formulas.new) stack.new.items) }
-    ensures formulas { IfOk result (λ i. tree_at formulas.new i ∷ trees_at formulas.new stack.new.items ≡ not_ (top (trees_at formulas.old stack.old.items)) ∷ rest 1 (trees_at formulas.old stack.old.items)) }
+    ensures formulas { IfOk result (λ i.
+        tree_at formulas.new i ∷ trees_at formulas.new stack.new.items
+        ≡ headed Not (trees_at formulas.old stack.old.items)) }
 {
     let part = take_top(formulas, stack)?;
     formulas.not(part)
@@ -121,7 +126,9 @@ fn place_of_head(
     requires { All (λ i. i < length formulas.old) stack.old.items }
     ensures within { IfOk result (λ i. i < length formulas.new) }
     ensures stack { OnOk result (All (λ i. i < length formulas.new) stack.new.items) }
-    ensures formulas { IfOk result (λ i. tree_at formulas.new i ∷ trees_at formulas.new stack.new.items ≡ headed head (trees_at formulas.old stack.old.items)) }
+    ensures formulas { IfOk result (λ i.
+        tree_at formulas.new i ∷ trees_at formulas.new stack.new.items
+        ≡ headed head (trees_at formulas.old stack.old.items)) }
 {
     match head {
         Head::False => formulas.falsity(),
@@ -162,7 +169,9 @@ fn place_of_kind(
     requires { All (λ i. i < length formulas.old) stack.old.items }
     ensures within { IfOk result (λ i. i < length formulas.new) }
     ensures stack { OnOk result (All (λ i. i < length formulas.new) stack.new.items) }
-    ensures formulas { IfOk result (λ i. tree_at formulas.new i ∷ trees_at formulas.new stack.new.items ≡ stacked order.now.keys (trees_at formulas.old stack.old.items) kind) }
+    ensures formulas { IfOk result (λ i.
+        tree_at formulas.new i ∷ trees_at formulas.new stack.new.items
+        ≡ stacked order.now.keys (trees_at formulas.old stack.old.items) kind) }
 {
     match kind {
         RowKind::Symbol(symbol) => place_of_symbol(formulas, order, symbol),
@@ -180,7 +189,8 @@ fn push_kind(
 ) -> Result<(), Memory>
     requires { All (λ i. i < length formulas.old) stack.old.items }
     ensures stack { OnOk result (All (λ i. i < length formulas.new) stack.new.items) }
-    ensures formulas { OnOk result (trees_at formulas.new stack.new.items ≡ stacked order.now.keys (trees_at formulas.old stack.old.items) kind) }
+    ensures formulas { OnOk result (trees_at formulas.new stack.new.items
+        ≡ stacked order.now.keys (trees_at formulas.old stack.old.items) kind) }
 {
     let place = place_of_kind(formulas, stack, order, kind)?;
     stack.push(place)?;
@@ -196,7 +206,8 @@ pub fn formula_of(
     statement: &Expr,
 ) -> Result<usize, Memory>
     ensures within { IfOk result (λ i. i < length formulas.new) }
-    ensures tree { IfOk result (λ i. tree_at formulas.new i ≡ top (stack_of order.now.keys statement.now)) }
+    ensures tree { IfOk result (λ i.
+        tree_at formulas.new i ≡ top (stack_of order.now.keys statement.now)) }
 {
     let mut stack = Vec::new(alloc);
     for i in 0..statement.length() {
