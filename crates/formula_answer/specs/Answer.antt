@@ -33,6 +33,7 @@ end_of t = search false (length (symbol_order t)) [] (canonical t) turn_limit
 abbrev pub answer : Tree → Answer
 answer t = answer_for (length (symbol_order t)) (end_of t)
 
+-- the answer is a proof
 abbrev pub is_proved : Answer → Bool
 is_proved (Proved turns) = true
 is_proved (Saturated values turns) = false

@@ -44,6 +44,7 @@ abbrev pub own_arguments : ℕ → Parts
 own_arguments zero = end
 own_arguments (suc n) = part (bound n) (own_arguments n)
 
+-- the canonical symbol with a number over the arguments of a symbol
 abbrev pub numbered : Sym → Option ℕ → Option Tree
 numbered f None = None
 numbered f (Some n) = Some (app (canon_sym n f.arity) (own_arguments f.arity))

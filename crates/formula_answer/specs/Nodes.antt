@@ -36,6 +36,7 @@ noted seen k = in_order_after seen (symbol_in k)
 abbrev pub trees_at : List Node → List ℕ → List Tree
 trees_at nodes places = map (tree_at nodes) (reverse places)
 
+-- the head of a connective
 abbrev pub head_of : Connective → Head
 head_of connective.And = And
 head_of connective.Or = Or
@@ -61,6 +62,7 @@ headed Imp st = joined connective.Implies st
 headed Iff st = joined connective.Iff st
 headed h st = true_ ∷ st
 
+-- the canonical symbol with a number; TRUE where there is none
 abbrev pub numeral_at : Option ℕ → Tree
 numeral_at None = true_
 numeral_at (Some n) = numeral n

@@ -39,8 +39,8 @@ fn answer_over(alloc: Global, order: &IndexSet<Sym>, statement: &Expr) -> Result
     decide(alloc, formulas, &[], goal, order.len(), TURN_LIMIT)
 }
 
-/// The answer of the written search to a propositional statement. Each symbol without arguments counts as one, of whatever
-/// kind. Want of memory is the only other answer.
+/// The answer of the written search to a propositional statement, whose symbols may be of any kind. Want of memory is the
+/// only other answer. Like every expression the statement is well formed, as the laws of answers ask.
 #[tactic(auto, using(crate::proofs::Meant::order_is, crate::proofs::Meant::answer_is, crate::proofs::Meant::values_are))]
 pub fn answer_to(alloc: Global, statement: &Expr) -> Result<Answered, Memory>
     requires { is_propositional statement.now ≡ true }
