@@ -1,0 +1,4 @@
+pub mod Canonical
+pub mod Answer
+pub mod Nodes
+pub mod Laws
