@@ -4,3 +4,4 @@ pub mod Symbols
 pub mod Core
 pub mod Env
 pub mod Walk
+pub mod Bodies

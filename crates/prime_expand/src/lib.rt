@@ -16,4 +16,4 @@ mod symbols;
 mod walk;
 
 pub use both::Both;
-pub use core::to_core;
+pub use core::{body_of, to_core};
