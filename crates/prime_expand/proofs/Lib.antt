@@ -2,3 +2,5 @@ mod Rows
 mod Heads
 mod Ways
 mod Envs
+mod CoreFine
+mod Cores

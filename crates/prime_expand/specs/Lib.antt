@@ -3,3 +3,5 @@ pub mod Forms
 pub mod Symbols
 pub mod Core
 pub mod Env
+pub mod Fine
+pub mod Laws

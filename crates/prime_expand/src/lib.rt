@@ -8,9 +8,11 @@
 mod both;
 mod env;
 mod forms;
+mod laws;
 mod operators;
 mod parts;
 mod ranges;
 mod symbols;
 
 pub use both::Both;
+pub use laws::{bodies_are_scoped, constant_is_its_prime, core_is_closed};
