@@ -1,15 +1,14 @@
--- What the making of nodes keeps holds of the core of an expression whose names are fine.
-use Rattle.std.specs.Prelude.{◌≡◌, ℕ, zero, suc, ◌+◌, ◌-◌, ◌≤◌, Bool, true, false, ◌||◌, nat_eq, if◌then◌else◌, List, [], ◌∷◌, length, drop, map, fold, Option, Some, None, codes}
+-- What the making of nodes keeps holds of the core of an expression whose names are fine; the laws of cores from that.
+use Rattle.std.specs.Prelude.{◌≡◌, ℕ, zero, suc, ◌+◌, ◌-◌, ◌≤◌, Bool, true, false, ◌||◌, nat_eq, if◌then◌else◌, List, [], ◌∷◌, length, drop, map, fold, Option, Some, None, codes, ◌<◌, ◌++◌, take}
 use Rattle.std.proofs.Common.{refl, ap, sym, ◌∙◌, arith, subst}
 use Rattle.tla_ast.specs.declared.place.Place.{Place}
 use Rattle.tla_ast.specs.declared.tree.Decl.{Decl}
 use Rattle.core_expr.specs.declared.head.Head.{Head}
-use Rattle.core_expr.specs.declared.head.Head.TheVariants.{True, False, Not, And, Or, Imp, Eq, In, Union, FunSet, Enum, Tuple, Apply, Except, If}
+use Rattle.core_expr.specs.declared.head.Head.TheVariants.{True, False, And, Or, Enum, Tuple, Apply}
 use Rattle.core_expr.specs.declared.head.Binder.{Binder}
-use Rattle.core_expr.specs.declared.head.Binder.TheVariants.{All, Ex, Filter, Image, Fun, Choose}
-use Rattle.core_expr.specs.Tree.{Tree, str_, enum_}
-use Rattle.core_expr.specs.Tree.Tree.{bound, node, bind}
-use Rattle.core_expr.specs.Tree.{Parts as parts}
+use Rattle.core_expr.specs.declared.head.Binder.TheVariants.{Filter, Image, Fun, Choose}
+use Rattle.core_expr.specs.Tree.{Tree, str_, enum_, Parts as parts, Parts, size, true_}
+use Rattle.core_expr.specs.Tree.Tree.{bound, node, bind, app}
 use Rattle.core_expr.specs.Heads.{parts_of}
 use Rattle.symbol_table.specs.declared.entry.Entry.{Entry}
 use Rattle.symbol_table.specs.Scoped.{entry_of}
@@ -22,12 +21,20 @@ use Rattle.plain_syntax.specs.Plain.Keys.{end_keys, key, field_key}
 use Rattle.plain_syntax.specs.Plain.Groups.{end_groups, free, within}
 use Rattle.plain_syntax.specs.Plain.Defs.{end_defs, def}
 use Rattle.prime_expand.specs.declared.both.Both.{Both}
-use Rattle.prime_expand.specs.Both.{same, on_both, plains, primeds, leaf, binary, quantified, bounded, restriction, lifted, part_at, one, two, joined, seconds}
+use Rattle.prime_expand.specs.Both.{same, plains, primeds, binary, quantified, bounded, lifted, part_at, joined, seconds}
 use Rattle.prime_expand.specs.Forms.{unchanged, string, along, updated, field_value, field_conditions, field_names, record_of, records_of, guards, arm, arms, otherwise, case_of}
-use Rattle.prime_expand.specs.Symbols.{is_word, is_listed, head_in, values, by_sort, constant, prefix_heads, infix_heads, denied_heads, library_signs, of_library, other_prefix, by_prefix_head, by_prefix, other_infix, by_denied_head, by_infix_head, by_infix}
-use Rattle.prime_expand.specs.Core.{Standing, Meaning, Env, lookup, known, known_as, at_depth, variable, names_in, quantifier_of, over_names, over_set, by_name, by_value, with_names, with_groups, with_arguments, with_definitions, core, cores, over, wrapped, updates, keys}
+use Rattle.prime_expand.specs.Symbols.{is_word, is_listed, head_in, values, by_sort, constant, prefix_heads, infix_heads, denied_heads, library_signs, of_library, by_prefix_head, by_prefix, by_denied_head, by_infix_head, by_infix, applied, flagged, second_kind}
+use Rattle.prime_expand.specs.Core.{Standing, Meaning, Env, lookup, known, known_as, at_depth, variable, names_in, quantifier_of, over_names, over_set, by_name, by_value, with_names, with_groups, with_arguments, with_definitions, core, cores, over, wrapped, updates, keys, core_of, bodies, loose, flags_in, nothing}
 use Rattle.prime_expand.specs.Core.Meaning.{fixed, given}
 use Rattle.prime_expand.specs.Fine.{has_number, listed, count, NameFine, SignFine, Fine, AllFine, OverFine, ValuesFine, SetsFine, UpdatesFine, KeysFine, DefsFine, with_decls, with_bounds, with_locals}
+use Rattle.core_expr.specs.declared.head.Sym.{Sym}
+use Rattle.core_expr.specs.declared.head.SymKind.{SymKind}
+use Rattle.core_expr.specs.Put.{shift, shifts, IsScoped, AreScoped}
+use Rattle.core_expr.proofs.Laws.{size-shifts, IsScoped-shift}
+use Rattle.symbol_table.specs.declared.entry.EntrySort.{EntrySort}
+use Rattle.prime_expand.specs.Laws.{Only, AllOnly, OfKind, OfSort, OfEntry, SymbolsFine, IsOver, Holds, CoreIsClosed, BodiesAreScoped, HasConstantSort, IsConstant, ConstantIsItsPrime}
+use Rattle.core_expr.specs.declared.head.SymKind.TheVariants as kinds
+use Rattle.symbol_table.specs.declared.entry.EntrySort.TheVariants as sorts
 
 abbrev pub node_of : Head → List ℕ → List Both → Both
 node_of h ns bs = record { plain = node h ns (parts_of (plains bs)); primed = node h ns (parts_of (primeds bs)) }
@@ -49,28 +56,13 @@ pub record Keeps (entries : List Entry) (Asked Sign : ℕ → ℕ → Type 0) (R
   pub names : (d n : ℕ) (bs : List Both) → Asked n (length bs) → AllR R d bs → R d (by_sort (entry_of entries n).sort (entry_of entries n) n bs)
   pub signs : (d n : ℕ) (bs : List Both) → Sign n (length bs) → AllR R d bs → R d (constant n bs)
 
-le_self : (d : ℕ) → d ≤ d
-le_self d = omega arith
-
-le_suc : (d : ℕ) → d ≤ suc d
-le_suc d = omega arith
-
-le_plus : (d k : ℕ) → d ≤ d + k
-le_plus d k = omega arith
-
-le_over : (c d e : ℕ) → c ≤ d → d ≤ e → c ≤ e
-le_over c d e p q = omega arith
-
-zero_right : (d : ℕ) → d ≡ d + 0
+zero_right : (d : ℕ) → d + 0 ≡ d
 zero_right d = omega arith
 
 suc_right : (d k : ℕ) → d + suc k ≡ suc (d + k)
 suc_right d k = omega arith
 
-suc_left : (d k : ℕ) → suc d + k ≡ d + suc k
-suc_left d k = omega arith
-
-sum_right : (a b c : ℕ) → (a + b) + c ≡ a + (b + c)
+sum_right : (a b c : ℕ) → a + (b + c) ≡ (a + b) + c
 sum_right a b c = omega arith
 
 module _ (means : Place → Option ℕ) (entries : List Entry) (Asked Sign : ℕ → ℕ → Type 0) (R : ℕ → Both → Type 0) (kept : Keeps entries Asked Sign R) where
@@ -143,6 +135,7 @@ module _ (means : Place → Option ℕ) (entries : List Entry) (Asked Sign : ℕ
       plain_strings : (hs : List Text) → parts_of (plains (map string hs)) ≡ parts_of (map (λ h. str_ h) hs)
       plain_strings [] = refl
       plain_strings (h ∷ hs) = λ i. parts.part (str_ h) (plain_strings hs i)
+
       primed_strings : (hs : List Text) → parts_of (primeds (map string hs)) ≡ parts_of (map (λ h. str_ h) hs)
       primed_strings [] = refl
       primed_strings (h ∷ hs) = λ i. parts.part (str_ h) (primed_strings hs i)
@@ -194,6 +187,7 @@ module _ (means : Place → Option ℕ) (entries : List Entry) (Asked Sign : ℕ
       denied : (g : Option Head) → R d (by_denied_head g o n bs)
       denied (Some g) = one_kept (two_kept (at_kept d 0 bs h) (at_kept d 1 bs h))
       denied None = if_kept (is_listed o library_signs) (λ e. library_kept d n bs (p e) h) leaf_kept
+
       go : (g : Option Head) → R d (by_infix_head g o n bs)
       go (Some g) = two_kept (at_kept d 0 bs h) (at_kept d 1 bs h)
       go None = denied (head_in denied_heads o)
@@ -201,108 +195,76 @@ module _ (means : Place → Option ℕ) (entries : List Entry) (Asked Sign : ℕ
   -- ---- binders
 
   over_names_kept : (b : Binder) (d k : ℕ) (p : Both) → R (d + k) p → R d (over_names b k p)
-  over_names_kept b d zero p h = subst (λ (n : ℕ). R n p) (sym (zero_right d)) h
+  over_names_kept b d zero p h = subst (λ (n : ℕ). R n p) (zero_right d) h
   over_names_kept b d (suc k) p h = over_names_kept b d k (quantified b p) (bind_kept (subst (λ (n : ℕ). R n p) (suc_right d k) h))
 
   bounded_kept : (b : Binder) (d : ℕ) (s p : Both) → R (suc d) s → R (suc d) p → R d (bounded b s p)
   bounded_kept b d s p h k = bind_kept (two_kept (two_kept (kept.variables d) h) k)
 
   over_set_kept : (b : Binder) (s : ℕ → Both) (d k : ℕ) (p : Both) → ((e : ℕ) → d ≤ e → R e (s e)) → R (d + k) p → R d (over_set b s d k p)
-  over_set_kept b s d zero p f h = subst (λ (n : ℕ). R n p) (sym (zero_right d)) h
+  over_set_kept b s d zero p f h = subst (λ (n : ℕ). R n p) (zero_right d) h
   over_set_kept b s d (suc k) p f h =
       over_set_kept b s d k (bounded b (s (d + suc k)) p) f
-      (bounded_kept b (d + k) (s (d + suc k)) p (subst (λ (n : ℕ). R n (s (d + suc k))) (suc_right d k) (f (d + suc k) (le_plus d (suc k)))) (subst (λ (n : ℕ). R n p) (suc_right d k) h))
+      (bounded_kept b (d + k) (s (d + suc k)) p (subst (λ (n : ℕ). R n (s (d + suc k))) (suc_right d k) (f (d + suc k) (omega arith))) (subst (λ (n : ℕ). R n p) (suc_right d k) h))
 
   -- ---- what names mean
 
   abbrev pub GoodStanding : ℕ → Standing → Type 0
   GoodStanding d s = (s.0 ≤ d) × R s.0 s.1
 
-  abbrev pub GoodMeaning : ℕ → Meaning → Type 0
-  GoodMeaning d (fixed s) = GoodStanding d s
-  GoodMeaning d (given f) = (e : ℕ) (bs : List Both) → d ≤ e → All_ e bs → R e (f e bs)
+  -- what a number means at a depth; without a meaning it is not bound
+  abbrev GoodAt : ℕ → Bool → Option Meaning → Type 0
+  GoodAt d is_bound None = is_bound ≡ false
+  GoodAt d is_bound (Some (fixed s)) = GoodStanding d s
+  GoodAt d is_bound (Some (given f)) = (e : ℕ) (bs : List Both) → d ≤ e → All_ e bs → R e (f e bs)
 
-  abbrev pub GoodEnv : ℕ → Env → Type 0
-  GoodEnv d [] = Unit {0}
-  GoodEnv d (x ∷ env) = GoodMeaning d x.1 × GoodEnv d env
-
-  -- a number that is bound has its meaning
-  abbrev pub Covers : Env → List ℕ → Type 0
-  Covers env ns = (n : ℕ) → lookup env n ≡ None → has_number ns n ≡ false
-
-  standing_more : (d e : ℕ) (s : Standing) → d ≤ e → GoodStanding d s → GoodStanding e s
-  standing_more d e s q h = (le_over s.0 d e h.0 q, h.1)
-
-  env_more : (d e : ℕ) (env : Env) → d ≤ e → GoodEnv d env → GoodEnv e env
-  env_more d e [] q h = tt
-  env_more d e ((n, fixed s) ∷ env) q h = (standing_more d e s q h.0, env_more d e env q h.1)
-  env_more d e ((n, given f) ∷ env) q h = ((λ c bs w k. h.0 c bs (le_over d e c q w) k), env_more d e env q h.1)
+  -- an environment at a depth, where these numbers are bound
+  abbrev pub Good : ℕ → Env → List ℕ → Type 0
+  Good d env ns = (n : ℕ) → GoodAt d (has_number ns n) (lookup env n)
 
   depth_kept : (d : ℕ) (s : Standing) → GoodStanding d s → R d (at_depth d s)
   depth_kept d s h = kept.lifts d s.0 s.1 h.0 h.1
 
-  abbrev GoodOption : ℕ → Option Meaning → Type 0
-  GoodOption d None = Unit {0}
-  GoodOption d (Some m) = GoodMeaning d m
-
-  lookup_good : (d n : ℕ) (env : Env) → GoodEnv d env → GoodOption d (lookup env n)
-  lookup_good d n [] h = tt
-  lookup_good d n (x ∷ env) h = go (nat_eq x.0 n) (lookup_good d n env h.1)
-    where
-      go : (b : Bool) → GoodOption d (lookup env n) → GoodOption d (if b then Some x.1 else lookup env n)
-      go true k = h.0
-      go false k = k
-
-  add_good : (d : ℕ) (o : Option ℕ) (m : Meaning) (env : Env) → GoodMeaning d m → GoodEnv d env → GoodEnv d (known_as o m env)
-  add_good d None m env g h = h
-  add_good d (Some n) m env g h = (g, h)
-
-  add_covers : (o : Option ℕ) (m : Meaning) (env : Env) (ns : List ℕ) → Covers env ns → Covers (known_as o m env) (listed o ns)
-  add_covers None m env ns h = h
-  add_covers (Some k) m env ns h = λ n e. go n (nat_eq k n) (h n) e
-    where
-      go : (n : ℕ) (b : Bool) → (lookup env n ≡ None → has_number ns n ≡ false) → (if b then Some m else lookup env n) ≡ None → b || has_number ns n ≡ false
-      go n true f e = cc
-      go n false f e = f e
-
-  -- an environment at a depth, for these numbers
-  pub record Good (d : ℕ) (env : Env) (ns : List ℕ) : Type 0 where
-    pub holds : GoodEnv d env
-    pub covers : Covers env ns
-
-  added : (d : ℕ) (o : Option ℕ) (m : Meaning) (env : Env) (ns : List ℕ) → GoodMeaning d m → Good d env ns → Good d (known_as o m env) (listed o ns)
-  added d o m env ns g h = record { holds = add_good d o m env g h.holds; covers = add_covers o m env ns h.covers }
+  standing_more : (d e : ℕ) (s : Standing) → d ≤ e → GoodStanding d s → GoodStanding e s
+  standing_more d e s q h = let p : s.0 ≤ d = h.0 in (omega (arith, p, q), h.1)
 
   more : (d e : ℕ) (env : Env) (ns : List ℕ) → d ≤ e → Good d env ns → Good e env ns
-  more d e env ns q h = record { holds = env_more d e env q h.holds; covers = h.covers }
+  more d e env ns q g n = go (has_number ns n) (lookup env n) (g n)
+    where
+      go : (b : Bool) (o : Option Meaning) → GoodAt d b o → GoodAt e b o
+      go b None h = h
+      go b (Some (fixed s)) h = standing_more d e s q h
+      go b (Some (given f)) h = λ c bs w k. h c bs (omega (arith, q, w)) k
+
+  added : (d : ℕ) (o : Option ℕ) (m : Meaning) (env : Env) (ns : List ℕ) → ((b : Bool) → GoodAt d b (Some m)) → Good d env ns → Good d (known_as o m env) (listed o ns)
+  added d None m env ns k g n = g n
+  added d (Some j) m env ns k g n = go (nat_eq j n)
+    where
+      go : (b : Bool) → GoodAt d (b || has_number ns n) (if b then Some m else lookup env n)
+      go true = k true
+      go false = g n
 
   with_variable : (d : ℕ) (o : Option ℕ) (env : Env) (ns : List ℕ) → Good d env ns → Good (suc d) (known_as o (variable d) env) (listed o ns)
-  with_variable d o env ns h = added (suc d) o (variable d) env ns (le_self (suc d), kept.variables d) (more d (suc d) env ns (le_suc d) h)
+  with_variable d o env ns g = added (suc d) o (variable d) env ns (λ b. (omega arith, kept.variables d)) (more d (suc d) env ns (omega arith) g)
 
   pub arguments_good : (d : ℕ) (ps : List Decl) (args : List Both) (env : Env) (ns : List ℕ) → All_ d args → Good d env ns → Good d (with_arguments means entries d ps args env) (with_decls means ns ps)
   arguments_good d [] args env ns h g = g
   arguments_good d (x ∷ xs) args env ns h g =
       arguments_good d xs (drop 1 args) (known_as (means x.place) (fixed (d, part_at 0 args)) env) (listed (means x.place) ns) (rest args h)
-      (added d (means x.place) (fixed (d, part_at 0 args)) env ns (le_self d, at_kept d 0 args h) g)
+      (added d (means x.place) (fixed (d, part_at 0 args)) env ns (λ b. (omega arith, at_kept d 0 args h)) g)
     where
       rest : (args : List Both) → All_ d args → All_ d (drop 1 args)
       rest [] h = tt
       rest (b ∷ args) h = h.1
 
-  names_good : (d : ℕ) (ds : List Decl) (env : Env) (ns : List ℕ) → Good d env ns → Good (d + length ds) (with_names means entries d ds env) (with_decls means ns ds)
-  names_good d [] env ns h = more d (d + 0) env ns (le_plus d 0) h
-  names_good d (x ∷ ds) env ns h =
-      subst (λ (n : ℕ). Good n (with_names means entries d (x ∷ ds) env) (with_decls means ns (x ∷ ds))) (suc_left d (length ds))
-      (names_good (suc d) ds (known_as (means x.place) (variable d) env) (listed (means x.place) ns) (with_variable d (means x.place) env ns h))
+  names_good : (d e : ℕ) (ds : List Decl) (env : Env) (ns : List ℕ) → e ≡ d + length ds → Good d env ns → Good e (with_names means entries d ds env) (with_decls means ns ds)
+  names_good d e [] env ns q g = more d e env ns (omega (arith, q)) g
+  names_good d e (x ∷ ds) env ns q g = names_good (suc d) e ds (known_as (means x.place) (variable d) env) (listed (means x.place) ns) (omega (arith, q)) (with_variable d (means x.place) env ns g)
 
-  groups_good : (d : ℕ) (gs : Groups) (env : Env) (ns : List ℕ) → Good d env ns → Good (d + names_in gs) (with_groups means entries d gs env) (with_bounds means ns gs)
-  groups_good d end_groups env ns h = more d (d + 0) env ns (le_plus d 0) h
-  groups_good d (free ds gs) env ns h =
-      subst (λ (n : ℕ). Good n (with_groups means entries d (free ds gs) env) (with_bounds means ns (free ds gs))) (sum_right d (length ds) (names_in gs))
-      (groups_good (d + length ds) gs (with_names means entries d ds env) (with_decls means ns ds) (names_good d ds env ns h))
-  groups_good d (within ds t gs) env ns h =
-      subst (λ (n : ℕ). Good n (with_groups means entries d (within ds t gs) env) (with_bounds means ns (within ds t gs))) (sum_right d (length ds) (names_in gs))
-      (groups_good (d + length ds) gs (with_names means entries d ds env) (with_decls means ns ds) (names_good d ds env ns h))
+  groups_good : (d e : ℕ) (gs : Groups) (env : Env) (ns : List ℕ) → e ≡ d + names_in gs → Good d env ns → Good e (with_groups means entries d gs env) (with_bounds means ns gs)
+  groups_good d e end_groups env ns q g = more d e env ns (omega (arith, q)) g
+  groups_good d e (free ds gs) env ns q g = groups_good (d + length ds) e gs (with_names means entries d ds env) (with_decls means ns ds) (omega (arith, q)) (names_good d (d + length ds) ds env ns refl g)
+  groups_good d e (within ds t gs) env ns q g = groups_good (d + length ds) e gs (with_names means entries d ds env) (with_decls means ns ds) (omega (arith, q)) (names_good d (d + length ds) ds env ns refl g)
 
   abbrev here : Env → Standing → ℕ → Terms → List Both
   here = cores means entries
@@ -311,26 +273,22 @@ module _ (means : Place → Option ℕ) (entries : List Entry) (Asked Sign : ℕ
   length-cores env a d none = refl
   length-cores env a d (part t ts) = ap suc (length-cores env a d ts)
 
-  sign_of : (n : Option ℕ) (i k : ℕ) → i ≡ k → SignFine means Asked Sign n k → SignFine means Asked Sign n i
-  sign_of n i k e h = subst (SignFine means Asked Sign n) (sym e) h
-
-  used_kept : (d : ℕ) (n : Option ℕ) (env : Env) (ns : List ℕ) (k : ℕ) (o : Option Meaning) (args : List Both)
-      → known env n ≡ o → GoodOption d o → Covers env ns → NameFine means Asked Sign ns n k → length args ≡ k → All_ d args → R d (by_name means entries n o d args)
-  used_kept d n env ns k (Some (fixed s)) args q g c f l h = depth_kept d s g
-  used_kept d n env ns k (Some (given m)) args q g c f l h = g d args (le_self d) h
-  used_kept d None env ns k None args q g c f l h = leaf_kept
-  used_kept d (Some n) env ns k None args q g c f l h = kept.names d n args (subst (Asked n) (sym l) (f (c n q))) h
-
   name_kept : (w : Text) (env : Env) (ns : List ℕ) (p : Place) (d k : ℕ) (args : List Both) → Good d env ns → (head_in values w ≡ None → NameFine means Asked Sign ns (means p) k) → length args ≡ k → All_ d args
       → R d (by_value means entries (head_in values w) env p d args)
-  name_kept w env ns p d k args g f l h = go (head_in values w) f
+  name_kept w env ns p d k args g f l h = value (head_in values w) f
     where
-      good : (n : Option ℕ) → GoodOption d (known env n)
-      good None = tt
-      good (Some n) = lookup_good d n env g.holds
-      go : (v : Option Head) → (v ≡ None → NameFine means Asked Sign ns (means p) k) → R d (by_value means entries v env p d args)
-      go (Some v) f = leaf_kept
-      go None f = used_kept d (means p) env ns k (known env (means p)) args refl (good (means p)) g.covers (f refl) l h
+      meant : (n : ℕ) (o : Option Meaning) → GoodAt d (has_number ns n) o → (has_number ns n ≡ false → Asked n k) → R d (by_name means entries (Some n) o d args)
+      meant n None q f = kept.names d n args (subst (Asked n) (sym l) (f q)) h
+      meant n (Some (fixed s)) q f = depth_kept d s q
+      meant n (Some (given m)) q f = q d args (omega arith) h
+
+      named : (n : Option ℕ) → NameFine means Asked Sign ns n k → R d (by_name means entries n (known env n) d args)
+      named None f = leaf_kept
+      named (Some n) f = meant n (lookup env n) (g n) f
+
+      value : (v : Option Head) → (v ≡ None → NameFine means Asked Sign ns (means p) k) → R d (by_value means entries v env p d args)
+      value (Some v) f = leaf_kept
+      value None f = named (means p) (f refl)
 
   mutual
     pub core_kept : (env : Env) (a : Standing) (d : ℕ) (ns : List ℕ) (t : Term) → Good d env ns → GoodStanding d a → Fine means Asked Sign ns t → R d (core means entries env a d t)
@@ -339,9 +297,9 @@ module _ (means : Place → Option ℕ) (entries : List Entry) (Asked Sign : ℕ
     core_kept env a d ns (term (number n) ts p) g m f = leaf_kept
     core_kept env a d ns (term (text s) ts p) g m f = leaf_kept
     core_kept env a d ns (term (prefixed o) ts p) g m f =
-        prefix_kept d o (means p) (here env a d ts) (λ e. sign_of (means p) (length (here env a d ts)) (count ts) (length-cores env a d ts) (f.0 e)) (cores_kept env a d ns ts g m f.1)
+        prefix_kept d o (means p) (here env a d ts) (λ e. subst (SignFine means Asked Sign (means p)) (sym (length-cores env a d ts)) (f.0 e)) (cores_kept env a d ns ts g m f.1)
     core_kept env a d ns (term (infixed o) ts p) g m f =
-        infix_kept d o (means p) (here env a d ts) (λ e. sign_of (means p) (length (here env a d ts)) (count ts) (length-cores env a d ts) (f.0 e)) (cores_kept env a d ns ts g m f.1)
+        infix_kept d o (means p) (here env a d ts) (λ e. subst (SignFine means Asked Sign (means p)) (sym (length-cores env a d ts)) (f.0 e)) (cores_kept env a d ns ts g m f.1)
     core_kept env a d ns (term prime ts p) g m f = kept.primes d (part_at 0 (here env a d ts)) (at_kept d 0 (here env a d ts) (cores_kept env a d ns ts g m f))
     core_kept env a d ns (term index ts p) g m f = two_kept (at_kept d 0 (here env a d ts) (cores_kept env a d ns ts g m f)) (at_kept d 1 (here env a d ts) (cores_kept env a d ns ts g m f))
     core_kept env a d ns (term (field h) ts p) g m f = two_kept (at_kept d 0 (here env a d ts) (cores_kept env a d ns ts g m f)) leaf_kept
@@ -353,24 +311,24 @@ module _ (means : Place → Option ℕ) (entries : List Entry) (Asked Sign : ℕ
     core_kept env a d ns (term functions ts p) g m f = two_kept (at_kept d 0 (here env a d ts) (cores_kept env a d ns ts g m f)) (at_kept d 1 (here env a d ts) (cores_kept env a d ns ts g m f))
     core_kept env a d ns (term (except us) ts p) g m f = updates_kept env a d ns (part_at 0 (here env a d ts)) us g m (at_kept d 0 (here env a d ts) (cores_kept env a d ns ts g m f.0)) f.1
     core_kept env a d ns (term (fields hs) ts p) g m f =
-        record_kept d hs (seconds (here env a (suc d) ts)) (seconds_kept env a (suc d) ns ts (more d (suc d) env ns (le_suc d) g) (standing_more d (suc d) a (le_suc d) m) f)
+        record_kept d hs (seconds (here env a (suc d) ts)) (seconds_kept env a (suc d) ns ts (more d (suc d) env ns (omega arith) g) (standing_more d (suc d) a (omega arith) m) f)
     core_kept env a d ns (term (field_sets hs) ts p) g m f =
         records_kept d hs (seconds (here env a d ts)) (seconds (here env a (suc d) ts)) (seconds_kept env a d ns ts g m f)
-        (seconds_kept env a (suc d) ns ts (more d (suc d) env ns (le_suc d) g) (standing_more d (suc d) a (le_suc d) m) f)
+        (seconds_kept env a (suc d) ns ts (more d (suc d) env ns (omega arith) g) (standing_more d (suc d) a (omega arith) m) f)
     core_kept env a d ns (term box ts p) g m f = two_kept (at_kept d 0 (here env a d ts) (cores_kept env a d ns ts g m f)) (unchanged_kept d (part_at 1 (here env a d ts)) (at_kept d 1 (here env a d ts) (cores_kept env a d ns ts g m f)))
     core_kept env a d ns (term angle ts p) g m f = two_kept (at_kept d 0 (here env a d ts) (cores_kept env a d ns ts g m f)) (one_kept (unchanged_kept d (part_at 1 (here env a d ts)) (at_kept d 1 (here env a d ts) (cores_kept env a d ns ts g m f))))
     core_kept env a d ns (term (junction all) ts p) g m f = joined_kept d (if all then And else Or) True (here env a d ts) (cores_kept env a d ns ts g m f)
     core_kept env a d ns (term (quantifier all gs) ts p) g m f =
         wrapped_kept (quantifier_of all) env a d ns gs (part_at 0 (here (with_groups means entries d gs env) a (d + names_in gs) ts)) g m f.0
         (at_kept (d + names_in gs) 0 (here (with_groups means entries d gs env) a (d + names_in gs) ts)
-          (cores_kept (with_groups means entries d gs env) a (d + names_in gs) (with_bounds means ns gs) ts (groups_good d gs env ns g) (standing_more d (d + names_in gs) a (le_plus d (names_in gs)) m) f.1))
+        (cores_kept (with_groups means entries d gs env) a (d + names_in gs) (with_bounds means ns gs) ts (groups_good d (d + names_in gs) gs env ns refl g) (standing_more d (d + names_in gs) a (omega arith) m) f.1))
     core_kept env a d ns (term (choice gs) ts p) g m f =
         wrapped_kept Choose env a d ns gs (part_at 0 (here (with_groups means entries d gs env) a (d + names_in gs) ts)) g m f.0
         (at_kept (d + names_in gs) 0 (here (with_groups means entries d gs env) a (d + names_in gs) ts)
-          (cores_kept (with_groups means entries d gs env) a (d + names_in gs) (with_bounds means ns gs) ts (groups_good d gs env ns g) (standing_more d (d + names_in gs) a (le_plus d (names_in gs)) m) f.1))
+        (cores_kept (with_groups means entries d gs env) a (d + names_in gs) (with_bounds means ns gs) ts (groups_good d (d + names_in gs) gs env ns refl g) (standing_more d (d + names_in gs) a (omega arith) m) f.1))
     core_kept env a d ns (term conditional ts p) g m f = three_kept (at_kept d 0 (here env a d ts) (cores_kept env a d ns ts g m f)) (at_kept d 1 (here env a d ts) (cores_kept env a d ns ts g m f)) (at_kept d 2 (here env a d ts) (cores_kept env a d ns ts g m f))
     core_kept env a d ns (term (cases other) ts p) g m f =
-        case_kept d (here env a (suc d) ts) (cores_kept env a (suc d) ns ts (more d (suc d) env ns (le_suc d) g) (standing_more d (suc d) a (le_suc d) m) f)
+        case_kept d (here env a (suc d) ts) (cores_kept env a (suc d) ns ts (more d (suc d) env ns (omega arith) g) (standing_more d (suc d) a (omega arith) m) f)
     core_kept env a d ns (term (local ds) ts p) g m f =
         at_kept d 0 (here (with_definitions means entries a ds env) a d ts)
         (cores_kept (with_definitions means entries a ds env) a d (with_locals means ns ds) ts (definitions_good env a d ns ds g m f.0) m f.1)
@@ -391,24 +349,24 @@ module _ (means : Place → Option ℕ) (entries : List Entry) (Asked Sign : ℕ
     ranged_kept b env a d ns p (part s ts) g m f =
         over_kept (core_kept env a d ns s g m f.0)
         (at_kept (suc d) 0 (here (known_as (means p) (variable d) env) a (suc d) ts)
-          (cores_kept (known_as (means p) (variable d) env) a (suc d) (listed (means p) ns) ts (with_variable d (means p) env ns g) (standing_more d (suc d) a (le_suc d) m) f.1))
+        (cores_kept (known_as (means p) (variable d) env) a (suc d) (listed (means p) ns) ts (with_variable d (means p) env ns g) (standing_more d (suc d) a (omega arith) m) f.1))
 
     wrapped_kept : (b : Binder) (env : Env) (a : Standing) (d : ℕ) (ns : List ℕ) (gs : Groups) (p : Both) → Good d env ns → GoodStanding d a → SetsFine means Asked Sign ns gs → R (d + names_in gs) p → R d (wrapped means entries env a d b gs p)
-    wrapped_kept b env a d ns end_groups p g m f h = subst (λ (n : ℕ). R n p) (sym (zero_right d)) h
+    wrapped_kept b env a d ns end_groups p g m f h = subst (λ (n : ℕ). R n p) (zero_right d) h
     wrapped_kept b env a d ns (free ds gs) p g m f h =
         over_names_kept b d (length ds) (wrapped means entries env a (d + length ds) b gs p)
-        (wrapped_kept b env a (d + length ds) ns gs p (more d (d + length ds) env ns (le_plus d (length ds)) g) (standing_more d (d + length ds) a (le_plus d (length ds)) m) f (subst (λ (n : ℕ). R n p) (sym (sum_right d (length ds) (names_in gs))) h))
+        (wrapped_kept b env a (d + length ds) ns gs p (more d (d + length ds) env ns (omega arith) g) (standing_more d (d + length ds) a (omega arith) m) f (subst (λ (n : ℕ). R n p) (sum_right d (length ds) (names_in gs)) h))
     wrapped_kept b env a d ns (within ds t gs) p g m f h =
         over_set_kept b (λ e. core means entries env a e t) d (length ds) (wrapped means entries env a (d + length ds) b gs p)
         (λ e le. core_kept env a e ns t (more d e env ns le g) (standing_more d e a le m) f.0)
-        (wrapped_kept b env a (d + length ds) ns gs p (more d (d + length ds) env ns (le_plus d (length ds)) g) (standing_more d (d + length ds) a (le_plus d (length ds)) m) f.1 (subst (λ (n : ℕ). R n p) (sym (sum_right d (length ds) (names_in gs))) h))
+        (wrapped_kept b env a (d + length ds) ns gs p (more d (d + length ds) env ns (omega arith) g) (standing_more d (d + length ds) a (omega arith) m) f.1 (subst (λ (n : ℕ). R n p) (sum_right d (length ds) (names_in gs)) h))
 
     updates_kept : (env : Env) (a : Standing) (d : ℕ) (ns : List ℕ) (r : Both) (us : Updates) → Good d env ns → GoodStanding d a → R d r → UpdatesFine means Asked Sign ns us → R d (updates means entries env a d r us)
     updates_kept env a d ns r end_updates g m h f = h
     updates_kept env a d ns r (update ks t us) g m h f =
         let k = keys_kept env a d ns ks g m f.0 in
         let w : Both = along r (keys means entries env a d ks) in
-        let v = core_kept env (d, w) d ns t g (le_self d, fold_kept d Apply r (keys means entries env a d ks) h k) f.1 in
+        let v = core_kept env (d, w) d ns t g (omega arith, fold_kept d Apply r (keys means entries env a d ks) h k) f.1 in
         updates_kept env a d ns (updated r (keys means entries env a d ks) (core means entries env (d, w) d t)) us g m (updated_kept d r (keys means entries env a d ks) (core means entries env (d, w) d t) h k v) f.2
 
     keys_kept : (env : Env) (a : Standing) (d : ℕ) (ns : List ℕ) (ks : Keys) → Good d env ns → GoodStanding d a → KeysFine means Asked Sign ns ks → All_ d (keys means entries env a d ks)
@@ -420,8 +378,209 @@ module _ (means : Place → Option ℕ) (entries : List Entry) (Asked Sign : ℕ
     definitions_good env a d ns end_defs g m f = g
     definitions_good env a d ns (def w ps t p ds) g m f =
         let body : Meaning = given (λ e args. core means entries (with_arguments means entries e ps args env) a e t) in
-        let h : GoodMeaning d body = λ e args le h. core_kept (with_arguments means entries e ps args env) a e (with_decls means ns ps) t (arguments_good e ps args env ns h (more d e env ns le g)) (standing_more d e a le m) f.0 in
-        definitions_good (known_as (means p) body env) a d (listed (means p) ns) ds (added d (means p) body env ns h g) m f.1
+        let h : GoodAt d false (Some body) = λ e args le h. core_kept (with_arguments means entries e ps args env) a e (with_decls means ns ps) t (arguments_good e ps args env ns h (more d e env ns le g)) (standing_more d e a le m) f.0 in
+        definitions_good (known_as (means p) body env) a d (listed (means p) ns) ds (added d (means p) body env ns (λ b. h) g) m f.1
 
-  pub empty_good : (d : ℕ) → Good d [] []
-  empty_good d = record { holds = tt; covers = λ n e. refl }
+-- ---- scopes and symbols
+
+length-plains : (bs : List Both) → length (plains bs) ≡ length bs
+length-plains [] = refl
+length-plains (b ∷ bs) = ap suc (length-plains bs)
+
+length-primeds : (bs : List Both) → length (primeds bs) ≡ length bs
+length-primeds [] = refl
+length-primeds (b ∷ bs) = ap suc (length-primeds bs)
+
+size-parts : (ts : List Tree) → size (parts_of ts) ≡ length ts
+size-parts [] = refl
+size-parts (t ∷ ts) = ap suc (size-parts ts)
+
+length-both : (xs ys : List Tree) → length (xs ++ ys) ≡ length xs + length ys
+length-both [] ys = omega arith
+length-both (x ∷ xs) ys = let h : length (xs ++ ys) ≡ length xs + length ys = length-both xs ys in omega arith
+
+module _ (P : Sym → ℕ → Type 0) where
+  mutual
+    Only-shift : (c k : ℕ) (e : Tree) → Only P e → Only P (shift c k e)
+    Only-shift c k (bound i) h = tt
+    Only-shift c k (app f ps) h = (subst (P f) (sym (size-shifts c k ps)) h.0, AllOnly-shifts c k ps h.1)
+    Only-shift c k (node f ns ps) h = AllOnly-shifts c k ps h
+    Only-shift c k (bind b ps e) h = (AllOnly-shifts c k ps h.0, Only-shift (suc c) k e h.1)
+
+    AllOnly-shifts : (c k : ℕ) (ps : Parts) → AllOnly P ps → AllOnly P (shifts c k ps)
+    AllOnly-shifts c k parts.end h = tt
+    AllOnly-shifts c k (parts.part e ps) h = (Only-shift c k e h.0, AllOnly-shifts c k ps h.1)
+
+  -- ---- n: the loose variables outside
+  module _ (means : Place → Option ℕ) (entries : List Entry) (n : ℕ) where
+    abbrev IsTree : ℕ → Tree → Type 0
+    IsTree d t = IsScoped (n + d) t × Only P t
+
+    record IsBoth (d : ℕ) (b : Both) : Type 0 where
+      pub plain : IsTree d b.plain
+      pub primed : IsTree d b.primed
+
+    abbrev AreTrees : ℕ → List Tree → Type 0
+    AreTrees d [] = Unit {0}
+    AreTrees d (t ∷ ts) = IsTree d t × AreTrees d ts
+
+    all_plain : (d : ℕ) (bs : List Both) → AllR IsBoth d bs → AreTrees d (plains bs)
+    all_plain d [] h = tt
+    all_plain d (b ∷ bs) h = (h.0.plain, all_plain d bs h.1)
+
+    all_primed : (d : ℕ) (bs : List Both) → AllR IsBoth d bs → AreTrees d (primeds bs)
+    all_primed d [] h = tt
+    all_primed d (b ∷ bs) h = (h.0.primed, all_primed d bs h.1)
+
+    all_flagged : (d : ℕ) (fs : List Bool) (bs : List Both) → AllR IsBoth d bs → AreTrees d (flagged fs bs)
+    all_flagged d [] bs h = tt
+    all_flagged d (f ∷ fs) [] h = tt
+    all_flagged d (true ∷ fs) (b ∷ bs) h = (h.0.primed, all_flagged d fs bs h.1)
+    all_flagged d (false ∷ fs) (b ∷ bs) h = all_flagged d fs bs h.1
+
+    all_append : (d : ℕ) (xs ys : List Tree) → AreTrees d xs → AreTrees d ys → AreTrees d (xs ++ ys)
+    all_append d [] ys h k = k
+    all_append d (x ∷ xs) ys h k = (h.0, all_append d xs ys h.1 k)
+
+    length-flagged : (fs : List Bool) (bs : List Both) → length (flagged fs bs) ≡ flags_in means entries (take (length bs) fs)
+    length-flagged [] [] = refl
+    length-flagged [] (b ∷ bs) = refl
+    length-flagged (f ∷ fs) [] = refl
+    length-flagged (true ∷ fs) (b ∷ bs) = ap suc (length-flagged fs bs)
+    length-flagged (false ∷ fs) (b ∷ bs) = length-flagged fs bs
+
+    parts_tree : (d : ℕ) (ts : List Tree) → AreTrees d ts → AreScoped (n + d) (parts_of ts) × AllOnly P (parts_of ts)
+    parts_tree d [] h = (tt, tt)
+    parts_tree d (t ∷ ts) h = let r = parts_tree d ts h.1 in ((h.0.0, r.0), (h.0.1, r.1))
+
+    applied_tree : (d : ℕ) (k : SymKind) (m j : ℕ) (ts : List Tree) → length ts ≡ j → OfKind P k m j → AreTrees d ts → IsTree d (applied k m ts)
+    applied_tree d k m j ts e p h =
+        let r = parts_tree d ts h in
+        (r.0, (subst (P (record { kind = k; number = m; arity = length ts })) (sym (size-parts ts)) (subst (λ (i : ℕ). OfKind P k m i) (sym e) p), r.1))
+
+    bind_tree : (d : ℕ) (b : Binder) (ts : List Tree) (e : Tree) → AreTrees d ts → IsTree (suc d) e → IsTree d (bind b (parts_of ts) e)
+    bind_tree d b ts e g h =
+        let r = parts_tree d ts g in
+        let q : n + suc d ≡ suc (n + d) = omega arith in
+        ((r.0, subst (λ (i : ℕ). IsScoped i e) q h.0), (r.1, h.1))
+
+    lift_tree : (d c : ℕ) (t : Tree) → c ≤ d → IsTree c t → IsTree d (shift 0 (d - c) t)
+    lift_tree d c t q h = (IsScoped-shift (n + c) 0 (d - c) (n + d) t (omega arith) h.0, Only-shift 0 (d - c) t h.1)
+
+    constant_both : (d m : ℕ) (bs : List Both) → OfKind P kinds.Constant m (length bs) → AllR IsBoth d bs → IsBoth d (constant m bs)
+    constant_both d m bs p h = record {
+      plain = applied_tree d kinds.Constant m (length bs) (plains bs) (length-plains bs) p (all_plain d bs h);
+      primed = applied_tree d kinds.Constant m (length bs) (primeds bs) (length-primeds bs) p (all_primed d bs h);
+    }
+
+    sort_both : (d : ℕ) (s : EntrySort) (e : Entry) (m : ℕ) (bs : List Both) → OfSort P means entries s e m (length bs) → AllR IsBoth d bs → IsBoth d (by_sort s e m bs)
+    sort_both d sorts.State e m bs p h = record {
+      plain = applied_tree d kinds.State m (length bs) (plains bs) (length-plains bs) p.0 (all_plain d bs h);
+      primed = applied_tree d kinds.Primed m (length bs) (primeds bs) (length-primeds bs) p.1 (all_primed d bs h);
+    }
+    sort_both d sorts.Definition e m bs p h =
+        let more : List Tree = flagged e.primed bs in
+        let j : ℕ = length bs + flags_in means entries (take (length bs) e.primed) in
+        let known = all_flagged d e.primed bs h in
+        record {
+          plain = applied_tree d kinds.Defined m j (plains bs ++ more) (length-both (plains bs) more ∙ (λ i. length-plains bs i + length-flagged e.primed bs i)) p.0 (all_append d (plains bs) more (all_plain d bs h) known);
+          primed = applied_tree d (second_kind e.level) m j (primeds bs ++ more) (length-both (primeds bs) more ∙ (λ i. length-primeds bs i + length-flagged e.primed bs i)) p.1 (all_append d (primeds bs) more (all_primed d bs h) known);
+        }
+    sort_both d s e m bs p h = constant_both d m bs p h
+
+    keeps : Keeps entries (OfEntry P means entries) (OfKind P kinds.Constant) IsBoth
+    keeps = record {
+      variables = λ d. record { plain = (omega arith, tt); primed = (omega arith, tt) };
+      nodes = λ d h ns bs g. record { plain = parts_tree d (plains bs) (all_plain d bs g); primed = parts_tree d (primeds bs) (all_primed d bs g) };
+      binders = λ d b ss e g h. record { plain = bind_tree d b (plains ss) e.plain (all_plain d ss g) h.plain; primed = bind_tree d b (primeds ss) e.primed (all_primed d ss g) h.primed };
+      lifts = λ d c b q h. record { plain = lift_tree d c b.plain q h.plain; primed = lift_tree d c b.primed q h.primed };
+      primes = λ d b h. record { plain = h.primed; primed = h.primed };
+      names = λ d m bs p h. sort_both d (entry_of entries m).sort (entry_of entries m) m bs p h;
+      signs = constant_both;
+    }
+
+    true_both : (d : ℕ) → IsBoth d (same true_)
+    true_both d = record { plain = (tt, tt); primed = (tt, tt) }
+
+    is_over : (b : Both) → IsBoth 0 b → IsOver P n b
+    is_over b h =
+        let e : n + 0 ≡ n = omega arith in
+        record {
+          plain_scoped = subst (λ (i : ℕ). IsScoped i b.plain) e h.plain.0;
+          plain_only = h.plain.1;
+          primed_scoped = subst (λ (i : ℕ). IsScoped i b.primed) e h.primed.0;
+          primed_only = h.primed.1;
+        }
+
+    variable_both : (i j : ℕ) → i < n → j < n → IsBoth 0 (record { plain = bound i; primed = bound j })
+    variable_both i j p q = record { plain = (omega arith, tt); primed = (omega arith, tt) }
+
+    loose_both : (left more : ℕ) (fs : List Bool) → left ≤ n → more ≤ n → length fs ≤ left → flags_in means entries fs ≤ more → AllR IsBoth 0 (loose means entries left more fs)
+    loose_both left more [] p q r s = tt
+    loose_both left more (true ∷ fs) p q r s =
+        (variable_both (left - 1) (more - 1) (omega arith) (omega arith), loose_both (left - 1) (more - 1) fs (omega arith) (omega arith) (omega arith) (omega arith))
+    loose_both left more (false ∷ fs) p q r s =
+        (variable_both (left - 1) (left - 1) (omega arith) (omega arith), loose_both (left - 1) more fs (omega arith) q (omega arith) s)
+
+-- for any P, decided or not
+pub core_over : (P : Sym → ℕ → Type 0) (means : Place → Option ℕ) (entries : List Entry) (t : Term) → SymbolsFine P means entries [] t → IsOver P 0 (core_of means entries t)
+unfolding core_of
+core_over P means entries t f =
+    let asked : ℕ → ℕ → Type 0 = OfEntry P means entries in
+    let k = keeps P means entries 0 in
+    is_over P means entries 0 (core_of means entries t)
+    (core_kept means entries asked (OfKind P kinds.Constant) (IsBoth P means entries 0) k [] (nothing means entries) 0 [] t
+    (λ n. refl) (omega arith, true_both P means entries 0 0) f)
+
+pub bodies_over : (P : Sym → ℕ → Type 0) (means : Place → Option ℕ) (entries : List Entry) (e : Entry) (ds : List Decl) (t : Term) → length e.primed ≡ length ds
+    → SymbolsFine P means entries (with_decls means [] ds) t → IsOver P (length ds + flags_in means entries e.primed) (bodies means entries e ds t)
+unfolding bodies
+bodies_over P means entries e ds t l f =
+    let asked : ℕ → ℕ → Type 0 = OfEntry P means entries in
+    let sign : ℕ → ℕ → Type 0 = OfKind P kinds.Constant in
+    let more : ℕ = flags_in means entries e.primed in
+    let n : ℕ = length ds + more in
+    let k = keeps P means entries n in
+    let as_ : List Both = loose means entries n more e.primed in
+    let h : AllR (IsBoth P means entries n) 0 as_ = loose_both P means entries n n more e.primed (omega arith) (omega arith) (omega arith) (omega arith) in
+    is_over P means entries n (bodies means entries e ds t)
+    (core_kept means entries asked sign (IsBoth P means entries n) k (with_arguments means entries 0 ds as_ []) (nothing means entries) 0 (with_decls means [] ds) t
+    (arguments_good means entries asked sign (IsBoth P means entries n) k 0 ds as_ [] [] h (λ i. refl))
+    (omega arith, true_both P means entries n 0) f)
+
+pub core_is_closed : CoreIsClosed
+core_is_closed test = core_over (Holds test)
+
+pub bodies_are_scoped : BodiesAreScoped
+bodies_are_scoped test = bodies_over (Holds test)
+
+-- ---- primes
+
+abbrev IsOwn : ℕ → Both → Type 0
+IsOwn d b = b.plain ≡ b.primed
+
+own_parts : (d : ℕ) (bs : List Both) → AllR IsOwn d bs → plains bs ≡ primeds bs
+own_parts d [] h = refl
+own_parts d (b ∷ bs) h = λ i. h.0 i ∷ own_parts d bs h.1 i
+
+own_sort : (d : ℕ) (s : EntrySort) (e : Entry) (m : ℕ) (bs : List Both) → HasConstantSort s e → plains bs ≡ primeds bs → IsOwn d (by_sort s e m bs)
+own_sort d sorts.State e m bs p h = absurd p
+own_sort d sorts.Definition e m bs p h = λ i. applied (second_kind (sym p i)) m (h i ++ flagged e.primed bs)
+own_sort d s e m bs p h = ap (applied kinds.Constant m) h
+
+own_keeps : (entries : List Entry) → Keeps entries (IsConstant entries) (λ n k. Unit {0}) IsOwn
+own_keeps entries = record {
+  variables = λ d. refl;
+  nodes = λ d h ns bs g. ap (λ ts. node h ns (parts_of ts)) (own_parts d bs g);
+  binders = λ d b ss e g h. (λ i. bind b (parts_of (own_parts d ss g i)) (h i));
+  lifts = λ d c b q h. ap (shift 0 (d - c)) h;
+  primes = λ d b h. refl;
+  names = λ d m bs p h. own_sort d (entry_of entries m).sort (entry_of entries m) m bs p (own_parts d bs h);
+  signs = λ d m bs p h. ap (applied kinds.Constant m) (own_parts d bs h);
+}
+
+pub constant_is_its_prime : ConstantIsItsPrime
+unfolding core_of
+constant_is_its_prime means entries t f =
+    core_kept means entries (IsConstant entries) (λ n k. Unit {0}) IsOwn (own_keeps entries) [] (nothing means entries) 0 [] t
+    (λ n. refl) (omega arith, refl) f

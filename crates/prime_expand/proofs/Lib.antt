@@ -2,5 +2,4 @@ mod Rows
 mod Heads
 mod Ways
 mod Envs
-mod CoreFine
-mod Cores
+pub mod CoreFine

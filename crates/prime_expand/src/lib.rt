@@ -15,4 +15,4 @@ mod ranges;
 mod symbols;
 
 pub use both::Both;
-pub use laws::{bodies_are_scoped, constant_is_its_prime, core_is_closed};
+pub use laws::{constants_are_own_primes, cores_are_scoped};
