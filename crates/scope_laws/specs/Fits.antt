@@ -1,0 +1,40 @@
+-- Symbols of what is declared before a number.
+use Rattle.std.specs.Prelude.{◌≡◌, ℕ, suc, ◌+◌, ◌<◌, ◌≤◌, Bool, true, false, ◌&&◌, nat_eq, nat_lt, List, [], ◌∷◌, ◌++◌, take, length, Option, Some, None}
+use Rattle.tla_ast.specs.declared.place.Place.{Place}
+use Rattle.tla_ast.specs.declared.tree.Decl.{Decl}
+use Rattle.core_expr.specs.declared.head.Sym.{Sym}
+use Rattle.core_expr.specs.declared.head.SymKind.{SymKind}
+use Rattle.core_expr.specs.declared.head.SymKind.TheVariants as kinds
+use Rattle.symbol_table.specs.declared.entry.Entry.{Entry}
+use Rattle.symbol_table.specs.declared.entry.EntrySort.{EntrySort}
+use Rattle.symbol_table.specs.declared.entry.EntrySort.TheVariants as sorts
+use Rattle.symbol_table.specs.Scoped.{entry_of}
+use Rattle.symbol_table.specs.Symbols.{symbol_at}
+use Rattle.plain_syntax.specs.Plain.{Term}
+use Rattle.module_scope.specs.Names.{Book, entries_of, symbols_of}
+use Rattle.prime_expand.specs.Core.{flags_in}
+use Rattle.prime_expand.specs.Fine.{with_decls}
+use Rattle.prime_expand.specs.Laws.{SymbolsFine, Holds}
+
+-- the arguments of a definition, and one more for each that it primes
+abbrev pub extended_arity : Entry → ℕ
+extended_arity e = e.arity + flags_in (symbol_at []) [] (take e.arity e.primed)
+
+-- Whether what is declared gives a symbol of a kind with k arguments. A library's name is not asked for its arity: STRING, and the
+-- signs of operators, are told by their form.
+abbrev pub gives : EntrySort → Entry → SymKind → ℕ → Bool
+gives sorts.Constant e kinds.Constant k = nat_eq e.arity k
+gives sorts.Library e kinds.Constant k = true
+gives sorts.State e kinds.State k = nat_eq e.arity k
+gives sorts.State e kinds.Primed k = nat_eq e.arity k
+gives sorts.Definition e kinds.Defined k = nat_eq (extended_arity e) k
+gives sorts.Definition e kinds.DefinedPrimed k = nat_lt 0 e.level && nat_eq (extended_arity e) k
+gives s e kind k = false
+
+-- whether a symbol with k arguments is one that an entry before the limit gives
+abbrev pub is_before : List Entry → ℕ → Sym → ℕ → Bool
+is_before entries limit f k = nat_lt f.number limit && nat_eq f.arity k && gives (entry_of entries f.number).sort (entry_of entries f.number) f.kind k
+
+-- each name of a text with parameters is bound there, or means an entry before the limit, which fits
+abbrev pub IsFine : (Place → Option ℕ) → List Entry → ℕ → List Decl → Term → Type 0
+IsFine means entries limit ps t = SymbolsFine (Holds (is_before entries limit)) means entries (with_decls means [] ps) t

@@ -1,0 +1,11 @@
+//! Laws of names.
+#![tactic(auto)]
+
+ghost use Rattle.std.specs.Prelude.{◌≡◌};
+
+/// x.
+pub fn echo(x: usize) -> usize
+    ensures { result ≡ x }
+{
+    x
+}
