@@ -30,14 +30,10 @@ use Rattle.module_scope.specs.Names.Book.{book}
 use Rattle.prime_expand.specs.Symbols.{head_in, values, is_listed, library_signs}
 use Rattle.prime_expand.specs.Fine.{has_number, listed, count, with_decls, with_bounds, with_locals, NameFine, SignFine, Fine, AllFine, OverFine, ValuesFine, SetsFine, UpdatesFine, KeysFine, DefsFine}
 use Rattle.scope_laws.specs.Places.{same_place, Has, Apart, decl_places, bound_places, places, all_places, over_places, value_places, set_places, update_places, key_places, definition_places}
-use Rattle.scope_laws.proofs.Walks.{has_left, has_right, IsPrefix, prefix_self, prefix_over, prefix_take, get_prefix, get_last, length_last, not_empty, Each, each_found, each_map, each_append, symbol_prefix, noted_here, noted_apart, noted_prefix, Free, free_left, free_right}
+use Rattle.scope_laws.specs.States.{is_bound, IsPrefix, Each, Free}
+use Rattle.scope_laws.proofs.Walks.{has_left, has_right, prefix_self, prefix_over, prefix_take, get_prefix, get_last, length_last, not_empty, each_found, each_map, each_append, symbol_prefix, noted_here, noted_apart, noted_prefix, free_left, free_right}
 
--- what is declared inside of an expression alone
-abbrev pub is_bound : EntrySort → Bool
-is_bound sorts.Bound = true
-is_bound _ = false
-
-clash : {A : Type 0} (b : Bool) → b ≡ true → b ≡ false → A
+pub clash : {A : Type 0} (b : Bool) → b ≡ true → b ≡ false → A
 clash b h k = absurd (no b h k)
   where
     no : (b : Bool) → b ≡ true → b ≡ false → ⊥
@@ -46,10 +42,10 @@ clash b h k = absurd (no b h k)
 nat_is : (a b : ℕ) → nat_eq a b ≡ true → a ≡ b
 nat_is a b h = grind (arith, nat_tests)
 
-nat_self : (n : ℕ) → nat_eq n n ≡ true
+pub nat_self : (n : ℕ) → nat_eq n n ≡ true
 nat_self n = grind (arith, nat_tests)
 
-below : (n a b : ℕ) → n < a → a ≤ b → n < b
+pub below : (n a b : ℕ) → n < a → a ≤ b → n < b
 below n a b h k = omega arith
 
 -- E: what is declared at the end; Y: what the names of the module mean at its end; L: no number from here on is used
@@ -260,7 +256,10 @@ module _ (E : List Entry) (Y : List (Place × ℕ)) (L : ℕ) where
             both : (a b c d : Bool) → a ≡ b → c ≡ d → a && c ≡ (b && d)
             both a b c d p q = λ i. p i && q i
         go : (a b c d e f : Bool) → a ≡ b → c ≡ d → e ≡ f → (if a then Some True else (if c then Some False else (if e then Some Boolean else None))) ≡ None → b || d || f ≡ false
-        go a b c d e f p q r h = cc
+        go true b c d e f p q r h = cc
+        go false b true d e f p q r h = cc
+        go false b false d true f p q r h = cc
+        go false b false d false f p q r h = cc
 
     named_walk : (w : Text) (k : ℕ) (p : Place) (b : Book) → Reaches (named w k p b) → Result b (named w k p b) (p ∷ []) (λ ns. head_in values w ≡ None → NameFine meant Asked Sign ns (meant p) k) same
     named_walk w k p b h = go (is_value w) refl h

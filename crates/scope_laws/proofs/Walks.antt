@@ -13,11 +13,9 @@ use Rattle.module_scope.specs.Scope.{Scope, found}
 use Rattle.module_scope.specs.Names.{Book, scope_of, entries_of, symbols_of, faults_of, refused, fresh, fresh_as}
 use Rattle.module_scope.specs.Names.Book.{book}
 use Rattle.scope_laws.specs.Places.{same_place, Has, Apart, AllApart}
+use Rattle.scope_laws.specs.States.{IsPrefix, Each, Free}
 
 -- ---- lists
-
-abbrev pub IsPrefix : {A : Type 0} → List A → List A → Type 0
-IsPrefix {A} xs zs = (ys : List A) × (xs ++ ys ≡ zs)
 
 pub prefix_self : {A : Type 0} (xs : List A) → IsPrefix xs xs
 prefix_self xs = ([], append-nil xs)
@@ -70,11 +68,6 @@ has_right [] ys x h = h
 has_right (y ∷ xs) ys x h = inr (has_right xs ys x h)
 
 -- ---- scopes
-
--- what holds of the number of each name in scope
-abbrev pub Each : (ℕ → Type 0) → Scope → Type 0
-Each Q [] = Unit {0}
-Each Q (s ∷ ss) = Q s.1 × Each Q ss
 
 pub each_found : (Q : ℕ → Type 0) (w : Text) (n : ℕ) (ss : Scope) → Each Q ss → found w ss ≡ Some n → Q n
 each_found Q w n [] h e = cc
@@ -146,11 +139,6 @@ noted_prefix p n ys zs = go (symbol_at ys p)
     go : (o : Option ℕ) → IsPrefix (unless_found o (p, n) ys) zs → IsPrefix ys zs
     go None h = prefix_over ys (ys ++ (p, n) ∷ []) zs ((p, n) ∷ [], refl) h
     go (Some m) h = h
-
--- places that differ, of which none means something yet
-pub record Free (ys : List (Place × ℕ)) (ps : List Place) : Type 0 where
-  pub apart : AllApart ps
-  pub unnoted : (p : Place) → Has ps p → symbol_at ys p ≡ None
 
 apart_left : (ps qs : List Place) → AllApart (ps ++ qs) → AllApart ps
 apart_left [] qs h = tt
