@@ -30,7 +30,7 @@ use Rattle.module_scope.specs.Names.Book.{book}
 use Rattle.prime_expand.specs.Symbols.{head_in, values, is_listed, library_signs}
 use Rattle.prime_expand.specs.Fine.{has_number, listed, count, with_decls, with_bounds, with_locals, NameFine, SignFine, Fine, AllFine, OverFine, ValuesFine, SetsFine, UpdatesFine, KeysFine, DefsFine}
 use Rattle.scope_laws.specs.Places.{same_place, Has, Apart, decl_places, bound_places, places, all_places, over_places, value_places, set_places, update_places, key_places, definition_places}
-use Rattle.scope_laws.specs.States.{is_bound, IsPrefix, Each, Free}
+use Rattle.scope_laws.specs.States.{IsPrefix, Each, Free}
 use Rattle.scope_laws.proofs.Walks.{has_left, has_right, prefix_self, prefix_over, prefix_take, get_prefix, get_last, length_last, not_empty, each_found, each_map, each_append, symbol_prefix, noted_here, noted_apart, noted_prefix, free_left, free_right}
 
 pub clash : {A : Type 0} (b : Bool) → b ≡ true → b ≡ false → A
@@ -48,8 +48,8 @@ nat_self n = grind (arith, nat_tests)
 pub below : (n a b : ℕ) → n < a → a ≤ b → n < b
 below n a b h k = omega arith
 
--- E: what is declared at the end; Y: what the names of the module mean at its end; L: no number from here on is used
-module _ (E : List Entry) (Y : List (Place × ℕ)) (L : ℕ) where
+-- E: what is declared at the end; Y: what the names of the module mean at its end; Outer: the numbers in scope outside
+module _ (E : List Entry) (Y : List (Place × ℕ)) (Outer : ℕ → Type 0) where
   abbrev pub meant : Place → Option ℕ
   meant = symbol_at Y
 
@@ -57,11 +57,10 @@ module _ (E : List Entry) (Y : List (Place × ℕ)) (L : ℕ) where
     pub entries : IsPrefix (entries_of b) E
     pub symbols : IsPrefix (symbols_of b) Y
     pub no_fault : faults_of b ≡ []
-    pub few : length (entries_of b) ≤ L
 
   -- a number in scope is bound here, or declared outside
   abbrev pub IsHere : ℕ → List ℕ → ℕ → Type 0
-  IsHere l ns n = (n < l) × (((has_number ns n ≡ true) × (is_library_sort (entry_of E n).sort ≡ false)) ⊎ (is_bound (entry_of E n).sort ≡ false))
+  IsHere l ns n = (n < l) × (((has_number ns n ≡ true) × (is_library_sort (entry_of E n).sort ≡ false)) ⊎ Outer n)
 
   abbrev pub Inv : Book → List ℕ → Type 0
   Inv b ns = Each (IsHere (length (entries_of b)) ns) (scope_of b)
@@ -97,7 +96,7 @@ module _ (E : List Entry) (Y : List (Place × ℕ)) (L : ℕ) where
     longer = over (length (entries_of b)) (length (entries_of c)) (length (entries_of d)) p.longer q.longer;
     keeps = λ r h. q.keeps r (λ x k. h x (has_right ps qs x k)) ∙ p.keeps r (λ x k. h x (has_left ps qs x k));
     inv = λ ns f i. q.inv (add ns) (free_right (symbols_of b) (symbols_of c) ps qs p.keeps f) (p.inv ns (free_left (symbols_of b) ps qs f) i);
-    fine = λ ns f i. (p.fine ns (free_left (symbols_of b) ps qs f) i, q.fine (add ns) (free_right (symbols_of b) (symbols_of c) ps qs p.keeps f) (p.inv ns (free_left (symbols_of b) ps qs f) i))
+    fine = λ ns f i. (p.fine ns (free_left (symbols_of b) ps qs f) i, q.fine (add ns) (free_right (symbols_of b) (symbols_of c) ps qs p.keeps f) (p.inv ns (free_left (symbols_of b) ps qs f) i));
   }
     where
       over : (a b c : ℕ) → a ≤ b → b ≤ c → a ≤ c
@@ -110,7 +109,7 @@ module _ (E : List Entry) (Y : List (Place × ℕ)) (L : ℕ) where
   stay b ps F h f = record { back = h; scope = prefix_self (scope_of b); longer = omega arith; keeps = λ q k. refl; inv = λ ns u i. i; fine = λ ns u i. f ns }
 
   pub left_back : (n : ℕ) (b : Book) → Reaches (left n b) → Reaches b
-  left_back n (book ss es ls ys fs) h = record { entries = h.entries; symbols = h.symbols; no_fault = h.no_fault; few = h.few }
+  left_back n (book ss es ls ys fs) h = record { entries = h.entries; symbols = h.symbols; no_fault = h.no_fault }
 
   pub inside_walk : (f : Walk) (b : Book) {ps : List Place} {F : List ℕ → Type 0} {add : List ℕ → List ℕ} → Result b (f b) ps F add → Result b (inside f b) ps F same
   inside_walk f b {ps = ps} {F = F} {add = add} = go (f b)
@@ -119,8 +118,12 @@ module _ (E : List Entry) (Y : List (Place × ℕ)) (L : ℕ) where
       go (book ss es ls ys fs) p =
           let e = prefix_take (scope_of b) ss p.scope in
           record {
-            back = p.back; scope = subst (IsPrefix (scope_of b)) (sym e) (prefix_self (scope_of b)); longer = p.longer; keeps = p.keeps;
-            inv = λ ns u i. longer_inv b (book (take (length (scope_of b)) ss) es ls ys fs) ns e p.longer i; fine = p.fine
+            back = p.back;
+            scope = subst (IsPrefix (scope_of b)) (sym e) (prefix_self (scope_of b));
+            longer = p.longer;
+            keeps = p.keeps;
+            inv = λ ns u i. longer_inv b (book (take (length (scope_of b)) ss) es ls ys fs) ns e p.longer i;
+            fine = p.fine;
           }
 
   -- where a test decides whether a name is refused
@@ -134,10 +137,14 @@ module _ (E : List Entry) (Y : List (Place × ℕ)) (L : ℕ) where
 
   pub stands_walk : (n : ℕ) (p : Place) (b : Book) (F : List ℕ → Type 0) → Reaches (stands n p b) → ((ns : List ℕ) → Reaches b → Inv b ns → meant p ≡ Some n → F ns) → Result b (stands n p b) (p ∷ []) F same
   stands_walk n p (book ss es ls ys fs) F h f =
-      let back : Reaches (book ss es ls ys fs) = record { entries = h.entries; symbols = noted_prefix p n ys Y h.symbols; no_fault = h.no_fault; few = h.few } in
+      let back : Reaches (book ss es ls ys fs) = record { entries = h.entries; symbols = noted_prefix p n ys Y h.symbols; no_fault = h.no_fault } in
       record {
-        back = back; scope = prefix_self ss; longer = omega arith; keeps = λ q k. noted_apart p q n ys (k p (inl refl)); inv = λ ns u i. i;
-        fine = λ ns u i. f ns back i (symbol_prefix (noted p n ys) Y p n h.symbols (noted_here p n ys (u.unnoted p (inl refl))))
+        back = back;
+        scope = prefix_self ss;
+        longer = omega arith;
+        keeps = λ q k. noted_apart p q n ys (k p (inl refl));
+        inv = λ ns u i. i;
+        fine = λ ns u i. f ns back i (symbol_prefix (noted p n ys) Y p n h.symbols (noted_here p n ys (u.unnoted p (inl refl))));
       }
 
   -- what the book says of a number in scope holds at the end
@@ -159,28 +166,29 @@ module _ (E : List Entry) (Y : List (Place × ℕ)) (L : ℕ) where
 
   -- a declaration is bound from then on, or is one that stands outside of expressions
   pub entered_walk : (e : Entry) (f : Applied) (p : Place) (b : Book) (add : List ℕ → List ℕ) → is_library_sort e.sort ≡ false
-      → ((ns : List ℕ) (k : ℕ) → has_number ns k ≡ true → has_number (add ns) k ≡ true) → ((ns : List ℕ) (n : ℕ) → meant p ≡ Some n → (has_number (add ns) n ≡ true) ⊎ (is_bound e.sort ≡ false))
+      → ((ns : List ℕ) (k : ℕ) → has_number ns k ≡ true → has_number (add ns) k ≡ true) → ((ns : List ℕ) (n : ℕ) → meant p ≡ Some n → (has_number (add ns) n ≡ true) ⊎ Outer n)
       → Reaches (entered e f p b) → Result b (entered e f p b) (p ∷ []) Nothing add
   entered_walk e f p (book ss es ls ys fs) add s more new h = record {
-    back = record { entries = prefix_over es (es ++ e ∷ []) E (e ∷ [], refl) h.entries; symbols = noted_prefix p (length es) ys Y h.symbols; no_fault = h.no_fault; few = few (length es) h.few };
-    scope = ((e.name, length es) ∷ [], refl); longer = subst (λ (n : ℕ). length es ≤ n) (sym (length_last es e)) (omega arith);
+    back = record { entries = prefix_over es (es ++ e ∷ []) E (e ∷ [], refl) h.entries; symbols = noted_prefix p (length es) ys Y h.symbols; no_fault = h.no_fault };
+    scope = ((e.name, length es) ∷ [], refl);
+    longer = subst (λ (n : ℕ). length es ≤ n) (sym (length_last es e)) (omega arith);
     keeps = λ q k. noted_apart p q (length es) ys (k p (inl refl));
     inv = λ ns u i. each_append (IsHere (length (es ++ e ∷ [])) (add ns)) ss ((e.name, length es) ∷ [])
         (each_map (IsHere (length es) ns) (IsHere (length (es ++ e ∷ [])) (add ns)) ss (λ k x. before ns k x) i)
         (here ns (new ns (length es) (symbol_prefix (noted p (length es) ys) Y p (length es) h.symbols (noted_here p (length es) ys (u.unnoted p (inl refl))))), tt);
-    fine = λ ns u i. tt
+    fine = λ ns u i. tt;
   }
     where
-      few : (n : ℕ) → length (es ++ e ∷ []) ≤ L → length es ≤ L
-      few n h = let q = length_last es e in omega (arith, q, h)
       is : entry_of E (length es) ≡ e
       is = get_prefix unlisted (es ++ e ∷ []) E (length es) h.entries (subst (λ (n : ℕ). length es < n) (sym (length_last es e)) (omega arith)) ∙ get_last unlisted e es
+
       before : (ns : List ℕ) (k : ℕ) → IsHere (length es) ns k → IsHere (length (es ++ e ∷ [])) (add ns) k
       before ns k (l, inl x) = (subst (λ (n : ℕ). k < n) (sym (length_last es e)) (omega arith), inl (more ns k x.0, x.1))
       before ns k (l, inr x) = (subst (λ (n : ℕ). k < n) (sym (length_last es e)) (omega arith), inr x)
-      here : (ns : List ℕ) → (has_number (add ns) (length es) ≡ true) ⊎ (is_bound e.sort ≡ false) → IsHere (length (es ++ e ∷ [])) (add ns) (length es)
+
+      here : (ns : List ℕ) → (has_number (add ns) (length es) ≡ true) ⊎ Outer (length es) → IsHere (length (es ++ e ∷ [])) (add ns) (length es)
       here ns (inl x) = (subst (λ (n : ℕ). length es < n) (sym (length_last es e)) (omega arith), inl (x, ap (λ (y : Entry). is_library_sort y.sort) is ∙ s))
-      here ns (inr x) = (subst (λ (n : ℕ). length es < n) (sym (length_last es e)) (omega arith), inr (ap (λ (y : Entry). is_bound y.sort) is ∙ x))
+      here ns (inr x) = (subst (λ (n : ℕ). length es < n) (sym (length_last es e)) (omega arith), inr x)
 
   listed_more : (o : Option ℕ) (ns : List ℕ) (k : ℕ) → has_number ns k ≡ true → has_number (listed o ns) k ≡ true
   listed_more None ns k h = h
@@ -221,27 +229,28 @@ module _ (E : List Entry) (Y : List (Place × ℕ)) (L : ℕ) where
   -- ---- names that are used
 
   module _ (Asked Sign : ℕ → ℕ → Type 0)
-      (plain : (n k : ℕ) → n < L → is_bound (entry_of E n).sort ≡ false → is_fact (entry_of E n).sort ≡ false → (entry_of E n).arity ≡ k → Asked n k)
-      (sign : (n k : ℕ) → n < L → is_library_sort (entry_of E n).sort ≡ true → Sign n k)
+      (plain : (n k : ℕ) → Outer n → is_fact (entry_of E n).sort ≡ false → (entry_of E n).arity ≡ k → Asked n k)
+      (sign : (n k : ℕ) → Outer n → is_library_sort (entry_of E n).sort ≡ true → Sign n k)
       (string : (k : ℕ) → Asked 0 k) where
-
     used_walk : (w : Text) (k : ℕ) (p : Place) (b : Book) → Reaches (used w k p b) → Result b (used w k p b) (p ∷ []) (λ ns. NameFine meant Asked Sign ns (meant p) k) same
     used_walk w k p b = go (found w (scope_of b)) refl
       where
         R : Book → Type 0
         R c = Result b c (p ∷ []) (λ ns. NameFine meant Asked Sign ns (meant p) k) same
+
         outer : (ns : List ℕ) (n : ℕ) → Reaches b → IsHere (length (entries_of b)) ns n → has_number ns n ≡ false → is_fact (entry b n).sort ≡ false → nat_eq (entry b n).arity k ≡ true → Asked n k
         outer ns n r (l, inl x) u f a = clash (has_number ns n) x.0 u
         outer ns n r (l, inr x) u f a =
             let q = at_end b n r l in
-            plain n k (below n (length (entries_of b)) L l r.few) x (ap (λ (y : Entry). is_fact y.sort) q ∙ f) (ap (λ (y : Entry). y.arity) q ∙ nat_is (entry b n).arity k a)
+            plain n k x (ap (λ (y : Entry). is_fact y.sort) q ∙ f) (ap (λ (y : Entry). y.arity) q ∙ nat_is (entry b n).arity k a)
+
         go : (o : Option ℕ) → found w (scope_of b) ≡ o → Reaches (used_as o w k p b) → R (used_as o w k p b)
         go None e h = refused_never (kind.Unknown w) p b h
         go (Some n) e h =
             refused_where (is_fact (entry b n).sort) (kind.Unknown w) p b (if nat_eq (entry b n).arity k then stands n p b else refused (kind.Arity w) p b) R h (λ f g.
-              refused_unless (nat_eq (entry b n).arity k) (kind.Arity w) p b (stands n p b) R g (λ a j.
-                stands_walk n p b (λ ns. NameFine meant Asked Sign ns (meant p) k) j (λ ns r i m.
-                  subst (λ (q : Option ℕ). NameFine meant Asked Sign ns q k) (sym m) (λ u. outer ns n r (each_found (IsHere (length (entries_of b)) ns) w n (scope_of b) i e) u f a))))
+            refused_unless (nat_eq (entry b n).arity k) (kind.Arity w) p b (stands n p b) R g (λ a j.
+            stands_walk n p b (λ ns. NameFine meant Asked Sign ns (meant p) k) j (λ ns r i m.
+            subst (λ (q : Option ℕ). NameFine meant Asked Sign ns q k) (sym m) (λ u. outer ns n r (each_found (IsHere (length (entries_of b)) ns) w n (scope_of b) i e) u f a))))
 
     -- the words for values are those that the other table has
     is_no_value : (w : Text) → head_in values w ≡ None → is_value w ≡ false
@@ -255,6 +264,7 @@ module _ (E : List Entry) (Y : List (Place × ℕ)) (L : ℕ) where
           where
             both : (a b c d : Bool) → a ≡ b → c ≡ d → a && c ≡ (b && d)
             both a b c d p q = λ i. p i && q i
+
         go : (a b c d e f : Bool) → a ≡ b → c ≡ d → e ≡ f → (if a then Some True else (if c then Some False else (if e then Some Boolean else None))) ≡ None → b || d || f ≡ false
         go true b c d e f p q r h = cc
         go false b true d e f p q r h = cc
@@ -267,6 +277,7 @@ module _ (E : List Entry) (Y : List (Place × ℕ)) (L : ℕ) where
         second : (c : Bool) → Reaches (if c then stands 0 p b else used w k p b) → Result b (if c then stands 0 p b else used w k p b) (p ∷ []) (λ ns. NameFine meant Asked Sign ns (meant p) k) same
         second true h = stands_walk 0 p b (λ ns. NameFine meant Asked Sign ns (meant p) k) h (λ ns r i m. subst (λ (o : Option ℕ). NameFine meant Asked Sign ns o k) (sym m) (λ u. string k))
         second false h = used_walk w k p b h
+
         go : (c : Bool) → is_value w ≡ c → Reaches (if c then b else (if is_word w (codes "STRING") then stands 0 p b else used w k p b)) → Result b (if c then b else (if is_word w (codes "STRING") then stands 0 p b else used w k p b)) (p ∷ []) (λ ns. head_in values w ≡ None → NameFine meant Asked Sign ns (meant p) k) same
         go true e h = stay b (p ∷ []) (λ ns. head_in values w ≡ None → NameFine meant Asked Sign ns (meant p) k) h (λ ns u. clash (is_value w) e (is_no_value w u))
         go false e h = as_ (second (is_word w (codes "STRING")) h) (λ ns x u. x)
@@ -276,13 +287,14 @@ module _ (E : List Entry) (Y : List (Place × ℕ)) (L : ℕ) where
       where
         outer : (ns : List ℕ) (n : ℕ) → Reaches b → IsHere (length (entries_of b)) ns n → is_library_sort (entry b n).sort ≡ true → Sign n k
         outer ns n r (l, inl x) f = clash (is_library_sort (entry_of E n).sort) (ap (λ (y : Entry). is_library_sort y.sort) (at_end b n r l) ∙ f) x.1
-        outer ns n r (l, inr x) f = sign n k (below n (length (entries_of b)) L l r.few) (ap (λ (y : Entry). is_library_sort y.sort) (at_end b n r l) ∙ f)
+        outer ns n r (l, inr x) f = sign n k x (ap (λ (y : Entry). is_library_sort y.sort) (at_end b n r l) ∙ f)
+
         go : (o : Option ℕ) → found w (scope_of b) ≡ o → Reaches (of_sort is_library_sort o shown p b) → Result b (of_sort is_library_sort o shown p b) (p ∷ []) (λ ns. SignFine meant Asked Sign (meant p) k) same
         go None e h = refused_never (kind.Unknown shown) p b h
         go (Some n) e h =
             refused_unless (is_library_sort (entry b n).sort) (kind.Unknown shown) p b (stands n p b) (λ c. Result b c (p ∷ []) (λ ns. SignFine meant Asked Sign (meant p) k) same) h (λ f j.
-              stands_walk n p b (λ ns. SignFine meant Asked Sign (meant p) k) j (λ ns r i m.
-                subst (λ (q : Option ℕ). SignFine meant Asked Sign q k) (sym m) (outer ns n r (each_found (IsHere (length (entries_of b)) ns) w n (scope_of b) i e) f)))
+            stands_walk n p b (λ ns. SignFine meant Asked Sign (meant p) k) j (λ ns r i m.
+            subst (λ (q : Option ℕ). SignFine meant Asked Sign q k) (sym m) (outer ns n r (each_found (IsHere (length (entries_of b)) ns) w n (scope_of b) i e) f)))
 
     -- where a test decides whether the operator is looked up
     tested_walk : (c : Bool) (w shown : Text) (k : ℕ) (p : Place) (b : Book) → Reaches (if c then operator w shown p b else b) → Result b (if c then operator w shown p b else b) (p ∷ []) (λ ns. c ≡ true → SignFine meant Asked Sign (meant p) k) same
@@ -319,21 +331,7 @@ module _ (E : List Entry) (Y : List (Place × ℕ)) (L : ℕ) where
       names_walk (term (local ds) ts p) b h =
           let q = all_walk ts (definitions ds b) (left_back (length (scope_of b)) (all_names ts (definitions ds b)) h) in
           inside_walk (definitions ds >> all_names ts) b (then_ (definitions_walk ds b q.back) q)
-      names_walk (term (number n) ts p) b h = all_walk ts b h
-      names_walk (term (text s) ts p) b h = all_walk ts b h
-      names_walk (term prime ts p) b h = all_walk ts b h
-      names_walk (term index ts p) b h = all_walk ts b h
-      names_walk (term (field g) ts p) b h = all_walk ts b h
-      names_walk (term enum ts p) b h = all_walk ts b h
-      names_walk (term tuple ts p) b h = all_walk ts b h
-      names_walk (term functions ts p) b h = all_walk ts b h
-      names_walk (term box ts p) b h = all_walk ts b h
-      names_walk (term angle ts p) b h = all_walk ts b h
-      names_walk (term (junction q) ts p) b h = all_walk ts b h
-      names_walk (term conditional ts p) b h = all_walk ts b h
-      names_walk (term (cases other) ts p) b h = all_walk ts b h
-      names_walk (term at ts p) b h = all_walk ts b h
-      names_walk (term fair ts p) b h = all_walk ts b h
+      names_walk (term s ts p) b h = all_walk ts b h
 
       all_walk : (ts : Terms) (b : Book) → Reaches (all_names ts b) → Result b (all_names ts b) (all_places ts) (λ ns. AllFine meant Asked Sign ns ts) same
       all_walk none b h = stay b [] (λ ns. Unit {0}) h (λ ns. tt)

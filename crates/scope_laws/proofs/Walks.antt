@@ -93,6 +93,7 @@ same-place p = both (nat_eq p.line p.line) (nat_eq p.column p.column) (self p.li
   where
     self : (n : ℕ) → nat_eq n n ≡ true
     self n = grind (arith, nat_tests)
+
     both : (a b : Bool) → a ≡ true → b ≡ true → a && b ≡ true
     both a b p q = cc
 
@@ -159,5 +160,5 @@ free_left ys ps qs h = record { apart = apart_left ps qs h.apart; unnoted = λ p
 pub free_right : (ys zs : List (Place × ℕ)) (ps qs : List Place) → ((q : Place) → Apart q ps → symbol_at zs q ≡ symbol_at ys q) → Free ys (ps ++ qs) → Free zs qs
 free_right ys zs ps qs keeps h = record {
   apart = apart_right ps qs h.apart;
-  unnoted = λ q k. keeps q (apart_across ps qs q h.apart k) ∙ h.unnoted q (has_right ps qs q k)
+  unnoted = λ q k. keeps q (apart_across ps qs q h.apart k) ∙ h.unnoted q (has_right ps qs q k);
 }
