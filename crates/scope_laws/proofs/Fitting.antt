@@ -1,16 +1,13 @@
 -- Names in scope give symbols of entries before a number.
-use Rattle.std.specs.Prelude.{◌≡◌, ℕ, zero, suc, ◌+◌, ◌<◌, ◌≤◌, Bool, true, false, ◌&&◌, IsTrue, nat_eq, nat_lt, List, [], ◌∷◌, ◌++◌, length, take, Option}
-use Rattle.std.proofs.Common.{refl, ap, sym, ◌∙◌, arith, subst, inr}
-use Rattle.std.proofs.lemmas.Bool.Decides.{nat_tests}
+use Rattle.std.specs.Prelude.{◌≡◌, ℕ, zero, suc, ◌+◌, ◌<◌, ◌≤◌, Bool, true, false, ◌&&◌, nat_eq, List, [], ◌++◌, length, take, Option}
+use Rattle.std.proofs.Common.{refl, ap, sym, ◌∙◌, subst, inr}
 use Rattle.tla_ast.specs.declared.place.Place.{Place}
-use Rattle.tla_ast.specs.declared.tree.Decl.{Decl}
 use Rattle.core_expr.specs.declared.head.SymKind.{SymKind}
 use Rattle.core_expr.specs.declared.head.SymKind.TheVariants as kinds
 use Rattle.symbol_table.specs.declared.entry.Entry.{Entry}
 use Rattle.symbol_table.specs.declared.entry.EntrySort.{EntrySort}
 use Rattle.symbol_table.specs.declared.entry.EntrySort.TheVariants as sorts
 use Rattle.symbol_table.specs.Scoped.{entry_of, unlisted}
-use Rattle.plain_syntax.specs.Plain.{Term}
 use Rattle.module_scope.specs.Names.{Book, entries_of, symbols_of, scope_of, names, means, is_fact, is_library_sort, has_any}
 use Rattle.prime_expand.specs.Symbols.{second_kind}
 use Rattle.prime_expand.specs.Core.{flags_in}
@@ -18,9 +15,9 @@ use Rattle.prime_expand.specs.Fine.{Fine, with_decls}
 use Rattle.prime_expand.specs.Laws.{Holds, OfKind, OfSort, OfEntry}
 use Rattle.prime_expand.proofs.CoreFine.{core_over, bodies_over}
 use Rattle.scope_laws.specs.Places.{places, decl_places}
-use Rattle.scope_laws.specs.States.{IsPrefix, Each, Free, Known, Later, is_bound, gives, is_inside}
+use Rattle.scope_laws.specs.States.{Free, Known, Later, is_bound, gives, is_inside}
 use Rattle.scope_laws.specs.Laws.{body_names, NumbersGrow, NamesAreFine, BodiesAreFine, CoresAreInScope, BodiesAreInScope}
-use Rattle.scope_laws.proofs.Walks.{get_prefix, each_map, prefix_over, prefix_length}
+use Rattle.scope_laws.proofs.Walks.{get_prefix, each_map}
 use Rattle.scope_laws.proofs.Named.{Reaches, Result, IsHere, clash, nat_self, names_walk, body_walk}
 
 module _ (E : List Entry) (ok : ℕ → Bool) (meant : Place → Option ℕ) where

@@ -1,5 +1,5 @@
 -- A walk over an expression that ends without faults leaves every name bound or in scope.
-use Rattle.std.specs.Prelude.{◌≡◌, ℕ, zero, suc, ◌+◌, ◌<◌, ◌≤◌, Bool, true, false, ◌&&◌, ◌||◌, ◌⊎◌, nat_eq, if◌then◌else◌, List, [], ◌∷◌, ◌++◌, length, take, Option, Some, None, codes}
+use Rattle.std.specs.Prelude.{◌≡◌, ℕ, ◌<◌, ◌≤◌, Bool, true, false, ◌&&◌, ◌||◌, ◌⊎◌, nat_eq, if◌then◌else◌, List, [], ◌∷◌, ◌++◌, length, take, Option, Some, None, codes}
 use Rattle.std.proofs.Common.{refl, ap, sym, ◌∙◌, arith, subst, inl, inr}
 use Rattle.std.proofs.lemmas.Cmp.{nat_eq_equiv}
 use Rattle.std.proofs.lemmas.Bool.Decides.{nat_tests}
@@ -11,25 +11,24 @@ use Rattle.core_expr.specs.declared.head.Head.TheVariants.{True, False, Boolean}
 use Rattle.plain_syntax.specs.Plain.{Text, Term, Terms, Updates, Keys, Groups, Defs}
 use Rattle.plain_syntax.specs.Plain.Term.{term}
 use Rattle.plain_syntax.specs.Plain.Terms.{none, part}
-use Rattle.plain_syntax.specs.Plain.Shape.{name, call, number, text, prefixed, infixed, prime, index, field, enum, filter, image, tuple, function, functions, except, fields, field_sets, box, angle, junction, quantifier, choice, conditional, cases, local, at, fair}
+use Rattle.plain_syntax.specs.Plain.Shape.{name, call, prefixed, infixed, filter, image, function, except, fields, field_sets, quantifier, choice, local}
 use Rattle.plain_syntax.specs.Plain.Updates.{end_updates, update}
 use Rattle.plain_syntax.specs.Plain.Keys.{end_keys, key, field_key}
 use Rattle.plain_syntax.specs.Plain.Groups.{end_groups, free, within}
 use Rattle.plain_syntax.specs.Plain.Defs.{end_defs, def}
 use Rattle.symbol_table.specs.declared.entry.Entry.{Entry}
-use Rattle.symbol_table.specs.declared.entry.EntrySort.{EntrySort}
 use Rattle.symbol_table.specs.declared.entry.EntrySort.TheVariants as sorts
 use Rattle.symbol_table.specs.Symbols.{symbol_at, noted}
 use Rattle.symbol_table.specs.Scoped.{entry_of, unlisted}
 use Rattle.expression_level.specs.Levels.{is_word, Applied, declared_level, definition_level}
 use Rattle.expression_level.specs.Primed.{primed_parameters}
 use Rattle.expression_level.specs.Store.{flags_of}
-use Rattle.module_scope.specs.Scope.{Scope, found}
-use Rattle.module_scope.specs.Names.{Book, Walk, scope_of, entries_of, levels_of, symbols_of, faults_of, left, inside, each, entry, means, refused, stands, fresh, fresh_as, entered, declared, declare_name, has_any, is_fact, is_library_sort, used, used_as, is_value, named, of_sort, operator, prefix_name, infix_name, bind_names, bound, defined, has_field, with_head, head_names, names, all_names, bound_names, set_names, update_names, key_names, field_names, definitions, ◌>>◌}
+use Rattle.module_scope.specs.Scope.{found}
+use Rattle.module_scope.specs.Names.{Book, Walk, scope_of, entries_of, levels_of, symbols_of, faults_of, left, inside, each, entry, means, refused, stands, fresh, fresh_as, entered, declare_name, is_fact, is_library_sort, used, used_as, is_value, named, of_sort, operator, bind_names, bound, defined, has_field, with_head, head_names, names, all_names, bound_names, set_names, update_names, key_names, field_names, definitions, ◌>>◌}
 use Rattle.module_scope.specs.Names.Book.{book}
 use Rattle.prime_expand.specs.Symbols.{head_in, values, is_listed, library_signs}
 use Rattle.prime_expand.specs.Fine.{has_number, listed, count, with_decls, with_bounds, with_locals, NameFine, SignFine, Fine, AllFine, OverFine, ValuesFine, SetsFine, UpdatesFine, KeysFine, DefsFine}
-use Rattle.scope_laws.specs.Places.{same_place, Has, Apart, decl_places, bound_places, places, all_places, over_places, value_places, set_places, update_places, key_places, definition_places}
+use Rattle.scope_laws.specs.Places.{Apart, decl_places, bound_places, places, all_places, over_places, value_places, set_places, update_places, key_places, definition_places}
 use Rattle.scope_laws.specs.States.{IsPrefix, Each, Free}
 use Rattle.scope_laws.proofs.Walks.{has_left, has_right, prefix_self, prefix_over, prefix_take, get_prefix, get_last, length_last, not_empty, each_found, each_map, each_append, symbol_prefix, noted_here, noted_apart, noted_prefix, free_left, free_right}
 

@@ -1,17 +1,13 @@
 -- What a walk leaves behind: its entries and symbols stay, and where it ends without faults there was none before.
-use Rattle.std.specs.Prelude.{◌≡◌, ℕ, zero, suc, ◌+◌, ◌<◌, ◌≤◌, Bool, true, false, ◌&&◌, ◌||◌, ◌⊎◌, nat_eq, if◌then◌else◌, List, [], ◌∷◌, ◌++◌, length, map, take, drop, Option, Some, None}
+use Rattle.std.specs.Prelude.{◌≡◌, ℕ, zero, suc, ◌<◌, ◌≤◌, Bool, true, false, ◌&&◌, nat_eq, if◌then◌else◌, List, [], ◌∷◌, ◌++◌, length, take, Option, Some, None}
 use Rattle.std.proofs.Common.{refl, ap, sym, ◌∙◌, arith, subst, inl, inr, get_or, append_assoc, append-nil}
 use Rattle.std.proofs.lemmas.Cmp.{nat_eq_equiv}
 use Rattle.std.proofs.lemmas.Bool.Decides.{nat_tests}
 use Rattle.tla_ast.specs.declared.place.Place.{Place}
-use Rattle.tla_ast.specs.declared.fault.Kind.{Kind}
 use Rattle.plain_syntax.specs.Plain.{Text}
-use Rattle.symbol_table.specs.declared.entry.Entry.{Entry}
 use Rattle.symbol_table.specs.Symbols.{symbol_at, noted, unless_found}
 use Rattle.expression_level.specs.Levels.{is_word}
 use Rattle.module_scope.specs.Scope.{Scope, found}
-use Rattle.module_scope.specs.Names.{Book, scope_of, entries_of, symbols_of, faults_of, refused, fresh, fresh_as}
-use Rattle.module_scope.specs.Names.Book.{book}
 use Rattle.scope_laws.specs.Places.{same_place, Has, Apart, AllApart}
 use Rattle.scope_laws.specs.States.{IsPrefix, Each, Free}
 
