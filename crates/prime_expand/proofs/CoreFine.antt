@@ -1,5 +1,6 @@
 -- What the making of nodes keeps holds of the core of an expression whose names are fine; the laws of cores from that.
 use Rattle.std.specs.Prelude.{◌≡◌, ℕ, zero, suc, ◌+◌, ◌-◌, ◌≤◌, Bool, true, false, ◌||◌, nat_eq, if◌then◌else◌, List, [], ◌∷◌, length, drop, map, fold, Option, Some, None, codes, ◌<◌, ◌++◌, take}
+use Rattle.std.proofs.lemmas.List.{length-append, length-map}
 use Rattle.std.proofs.Common.{refl, ap, sym, ◌∙◌, arith, subst}
 use Rattle.tla_ast.specs.declared.place.Place.{Place}
 use Rattle.tla_ast.specs.declared.tree.Decl.{Decl}
@@ -7,7 +8,7 @@ use Rattle.core_expr.specs.declared.head.Head.{Head}
 use Rattle.core_expr.specs.declared.head.Head.TheVariants.{True, False, And, Or, Enum, Tuple, Apply}
 use Rattle.core_expr.specs.declared.head.Binder.{Binder}
 use Rattle.core_expr.specs.declared.head.Binder.TheVariants.{Filter, Image, Fun, Choose}
-use Rattle.core_expr.specs.Tree.{Tree, str_, enum_, Parts as parts, Parts, size, true_}
+use Rattle.core_expr.specs.Tree.{Tree, str_, enum_, Parts as parts, Parts, true_}
 use Rattle.core_expr.specs.Tree.Tree.{bound, node, bind, app}
 use Rattle.core_expr.specs.Heads.{parts_of}
 use Rattle.symbol_table.specs.declared.entry.Entry.{Entry}
@@ -30,6 +31,7 @@ use Rattle.prime_expand.specs.Fine.{has_number, listed, count, NameFine, SignFin
 use Rattle.core_expr.specs.declared.head.Sym.{Sym}
 use Rattle.core_expr.specs.declared.head.SymKind.{SymKind}
 use Rattle.core_expr.specs.Put.{shift, shifts, IsScoped, AreScoped}
+use Rattle.core_expr.proofs.BuildLaws.{size-parts_of}
 use Rattle.core_expr.proofs.Laws.{size-shifts, IsScoped-shift}
 use Rattle.symbol_table.specs.declared.entry.EntrySort.{EntrySort}
 use Rattle.prime_expand.specs.Laws.{Only, AllOnly, OfKind, OfSort, OfEntry, SymbolsFine, IsOver, Holds, CoreIsClosed, BodiesAreScoped, HasConstantSort, IsConstant, ConstantIsItsPrime}
@@ -383,22 +385,6 @@ module _ (means : Place → Option ℕ) (entries : List Entry) (Asked Sign : ℕ
 
 -- ---- scopes and symbols
 
-length-plains : (bs : List Both) → length (plains bs) ≡ length bs
-length-plains [] = refl
-length-plains (b ∷ bs) = ap suc (length-plains bs)
-
-length-primeds : (bs : List Both) → length (primeds bs) ≡ length bs
-length-primeds [] = refl
-length-primeds (b ∷ bs) = ap suc (length-primeds bs)
-
-size-parts : (ts : List Tree) → size (parts_of ts) ≡ length ts
-size-parts [] = refl
-size-parts (t ∷ ts) = ap suc (size-parts ts)
-
-length-both : (xs ys : List Tree) → length (xs ++ ys) ≡ length xs + length ys
-length-both [] ys = omega arith
-length-both (x ∷ xs) ys = let h : length (xs ++ ys) ≡ length xs + length ys = length-both xs ys in omega arith
-
 module _ (P : Sym → ℕ → Type 0) where
   mutual
     Only-shift : (c k : ℕ) (e : Tree) → Only P e → Only P (shift c k e)
@@ -456,7 +442,7 @@ module _ (P : Sym → ℕ → Type 0) where
     applied_tree : (d : ℕ) (k : SymKind) (m j : ℕ) (ts : List Tree) → length ts ≡ j → OfKind P k m j → AreTrees d ts → IsTree d (applied k m ts)
     applied_tree d k m j ts e p h =
         let r = parts_tree d ts h in
-        (r.0, (subst (P (record { kind = k; number = m; arity = length ts })) (sym (size-parts ts)) (subst (λ (i : ℕ). OfKind P k m i) (sym e) p), r.1))
+        (r.0, (subst (P (record { kind = k; number = m; arity = length ts })) (sym (size-parts_of ts)) (subst (λ (i : ℕ). OfKind P k m i) (sym e) p), r.1))
 
     bind_tree : (d : ℕ) (b : Binder) (ts : List Tree) (e : Tree) → AreTrees d ts → IsTree (suc d) e → IsTree d (bind b (parts_of ts) e)
     bind_tree d b ts e g h =
@@ -469,22 +455,22 @@ module _ (P : Sym → ℕ → Type 0) where
 
     constant_both : (d m : ℕ) (bs : List Both) → OfKind P kinds.Constant m (length bs) → AllR IsBoth d bs → IsBoth d (constant m bs)
     constant_both d m bs p h = record {
-      plain = applied_tree d kinds.Constant m (length bs) (plains bs) (length-plains bs) p (all_plain d bs h);
-      primed = applied_tree d kinds.Constant m (length bs) (primeds bs) (length-primeds bs) p (all_primed d bs h);
+      plain = applied_tree d kinds.Constant m (length bs) (plains bs) (length-map bs (λ (a : Both). a.plain)) p (all_plain d bs h);
+      primed = applied_tree d kinds.Constant m (length bs) (primeds bs) (length-map bs (λ (a : Both). a.primed)) p (all_primed d bs h);
     }
 
     sort_both : (d : ℕ) (s : EntrySort) (e : Entry) (m : ℕ) (bs : List Both) → OfSort P means entries s e m (length bs) → AllR IsBoth d bs → IsBoth d (by_sort s e m bs)
     sort_both d sorts.State e m bs p h = record {
-      plain = applied_tree d kinds.State m (length bs) (plains bs) (length-plains bs) p.0 (all_plain d bs h);
-      primed = applied_tree d kinds.Primed m (length bs) (primeds bs) (length-primeds bs) p.1 (all_primed d bs h);
+      plain = applied_tree d kinds.State m (length bs) (plains bs) (length-map bs (λ (a : Both). a.plain)) p.0 (all_plain d bs h);
+      primed = applied_tree d kinds.Primed m (length bs) (primeds bs) (length-map bs (λ (a : Both). a.primed)) p.1 (all_primed d bs h);
     }
     sort_both d sorts.Definition e m bs p h =
         let more : List Tree = flagged e.primed bs in
         let j : ℕ = length bs + flags_in means entries (take (length bs) e.primed) in
         let known = all_flagged d e.primed bs h in
         record {
-          plain = applied_tree d kinds.Defined m j (plains bs ++ more) (length-both (plains bs) more ∙ (λ i. length-plains bs i + length-flagged e.primed bs i)) p.0 (all_append d (plains bs) more (all_plain d bs h) known);
-          primed = applied_tree d (second_kind e.level) m j (primeds bs ++ more) (length-both (primeds bs) more ∙ (λ i. length-primeds bs i + length-flagged e.primed bs i)) p.1 (all_append d (primeds bs) more (all_primed d bs h) known);
+          plain = applied_tree d kinds.Defined m j (plains bs ++ more) (length-append (plains bs) more ∙ (λ i. length-map bs (λ (a : Both). a.plain) i + length-flagged e.primed bs i)) p.0 (all_append d (plains bs) more (all_plain d bs h) known);
+          primed = applied_tree d (second_kind e.level) m j (primeds bs ++ more) (length-append (primeds bs) more ∙ (λ i. length-map bs (λ (a : Both). a.primed) i + length-flagged e.primed bs i)) p.1 (all_append d (primeds bs) more (all_primed d bs h) known);
         }
     sort_both d s e m bs p h = constant_both d m bs p h
 

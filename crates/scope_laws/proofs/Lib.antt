@@ -1,3 +1,3 @@
-mod Walks
-mod Named
-mod Fitting
+pub mod Walks
+pub mod Named
+pub mod Fitting

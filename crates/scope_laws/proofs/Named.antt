@@ -1,8 +1,9 @@
 -- A walk over an expression that ends without faults leaves every name bound or in scope.
 use Rattle.std.specs.Prelude.{◌≡◌, ℕ, ◌<◌, ◌≤◌, Bool, true, false, ◌&&◌, ◌||◌, ◌⊎◌, nat_eq, if◌then◌else◌, List, [], ◌∷◌, ◌++◌, length, take, Option, Some, None, codes}
 use Rattle.std.proofs.Common.{refl, ap, sym, ◌∙◌, arith, subst, inl, inr}
+use Rattle.std.proofs.Math.Seq.{get_or-append_seam}
+use Rattle.core_expr.specs.Equal.{nat-same, nat-refl}
 use Rattle.std.proofs.lemmas.Cmp.{nat_eq_equiv}
-use Rattle.std.proofs.lemmas.Bool.Decides.{nat_tests}
 use Rattle.tla_ast.specs.declared.place.Place.{Place}
 use Rattle.tla_ast.specs.declared.fault.Kind.{Kind}
 use Rattle.tla_ast.specs.declared.fault.Kind.TheVariants as kind
@@ -30,7 +31,7 @@ use Rattle.prime_expand.specs.Symbols.{head_in, values, is_listed, library_signs
 use Rattle.prime_expand.specs.Fine.{has_number, listed, count, with_decls, with_bounds, with_locals, NameFine, SignFine, Fine, AllFine, OverFine, ValuesFine, SetsFine, UpdatesFine, KeysFine, DefsFine}
 use Rattle.scope_laws.specs.Places.{Apart, decl_places, bound_places, places, all_places, over_places, value_places, set_places, update_places, key_places, definition_places}
 use Rattle.scope_laws.specs.States.{IsPrefix, Each, Free}
-use Rattle.scope_laws.proofs.Walks.{has_left, has_right, prefix_self, prefix_over, prefix_take, get_prefix, get_last, length_last, not_empty, each_found, each_map, each_append, symbol_prefix, noted_here, noted_apart, noted_prefix, free_left, free_right}
+use Rattle.scope_laws.proofs.Walks.{has_left, has_right, prefix_self, prefix_over, prefix_take, get_prefix, length_last, not_empty, each_found, each_map, each_append, symbol_prefix, noted_here, noted_apart, noted_prefix, free_left, free_right}
 
 pub clash : {A : Type 0} (b : Bool) → b ≡ true → b ≡ false → A
 clash b h k = absurd (no b h k)
@@ -38,13 +39,7 @@ clash b h k = absurd (no b h k)
     no : (b : Bool) → b ≡ true → b ≡ false → ⊥
     no b h k = cc
 
-nat_is : (a b : ℕ) → nat_eq a b ≡ true → a ≡ b
-nat_is a b h = grind (arith, nat_tests)
-
-pub nat_self : (n : ℕ) → nat_eq n n ≡ true
-nat_self n = grind (arith, nat_tests)
-
-pub below : (n a b : ℕ) → n < a → a ≤ b → n < b
+below : (n a b : ℕ) → n < a → a ≤ b → n < b
 below n a b h k = omega arith
 
 -- E: what is declared at the end; Y: what the names of the module mean at its end; Outer: the numbers in scope outside
@@ -179,7 +174,7 @@ module _ (E : List Entry) (Y : List (Place × ℕ)) (Outer : ℕ → Type 0) whe
   }
     where
       is : entry_of E (length es) ≡ e
-      is = get_prefix unlisted (es ++ e ∷ []) E (length es) h.entries (subst (λ (n : ℕ). length es < n) (sym (length_last es e)) (omega arith)) ∙ get_last unlisted e es
+      is = get_prefix unlisted (es ++ e ∷ []) E (length es) h.entries (subst (λ (n : ℕ). length es < n) (sym (length_last es e)) (omega arith)) ∙ get_or-append_seam es e [] unlisted
 
       before : (ns : List ℕ) (k : ℕ) → IsHere (length es) ns k → IsHere (length (es ++ e ∷ [])) (add ns) k
       before ns k (l, inl x) = (subst (λ (n : ℕ). k < n) (sym (length_last es e)) (omega arith), inl (more ns k x.0, x.1))
@@ -198,7 +193,7 @@ module _ (E : List Entry) (Y : List (Place × ℕ)) (Outer : ℕ → Type 0) whe
       or_true false b h = h
 
   listed_here : (o : Option ℕ) (ns : List ℕ) (n : ℕ) → o ≡ Some n → has_number (listed o ns) n ≡ true
-  listed_here o ns n e = subst (λ (q : Option ℕ). has_number (listed q ns) n ≡ true) (sym e) (ap (λ b. b || has_number ns n) (nat_self n))
+  listed_here o ns n e = subst (λ (q : Option ℕ). has_number (listed q ns) n ≡ true) (sym e) (ap (λ b. b || has_number ns n) (nat-refl n))
 
   -- a declaration inside of an expression
   local_walk : (e : Entry) (f : Applied) (p : Place) (b : Book) → is_library_sort e.sort ≡ false → Reaches (entered e f p b) → Result b (entered e f p b) (p ∷ []) Nothing (listed (meant p))
@@ -241,7 +236,7 @@ module _ (E : List Entry) (Y : List (Place × ℕ)) (Outer : ℕ → Type 0) whe
         outer ns n r (l, inl x) u f a = clash (has_number ns n) x.0 u
         outer ns n r (l, inr x) u f a =
             let q = at_end b n r l in
-            plain n k x (ap (λ (y : Entry). is_fact y.sort) q ∙ f) (ap (λ (y : Entry). y.arity) q ∙ nat_is (entry b n).arity k a)
+            plain n k x (ap (λ (y : Entry). is_fact y.sort) q ∙ f) (ap (λ (y : Entry). y.arity) q ∙ nat-same (entry b n).arity k a)
 
         go : (o : Option ℕ) → found w (scope_of b) ≡ o → Reaches (used_as o w k p b) → R (used_as o w k p b)
         go None e h = refused_never (kind.Unknown w) p b h

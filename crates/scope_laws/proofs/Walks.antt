@@ -1,8 +1,10 @@
 -- What a walk leaves behind: its entries and symbols stay, and where it ends without faults there was none before.
-use Rattle.std.specs.Prelude.{◌≡◌, ℕ, zero, suc, ◌<◌, ◌≤◌, Bool, true, false, ◌&&◌, nat_eq, if◌then◌else◌, List, [], ◌∷◌, ◌++◌, length, take, Option, Some, None}
+use Rattle.std.specs.Prelude.{◌≡◌, ℕ, suc, ◌<◌, Bool, true, false, ◌&&◌, nat_eq, if◌then◌else◌, List, [], ◌∷◌, ◌++◌, length, take, Option, Some, None}
 use Rattle.std.proofs.Common.{refl, ap, sym, ◌∙◌, arith, subst, inl, inr, get_or, append_assoc, append-nil}
+use Rattle.std.proofs.lemmas.List.{length-append, get_or_append_left}
+use Rattle.std.proofs.Math.Seq.{take-append_seam}
+use Rattle.core_expr.specs.Equal.{nat-refl}
 use Rattle.std.proofs.lemmas.Cmp.{nat_eq_equiv}
-use Rattle.std.proofs.lemmas.Bool.Decides.{nat_tests}
 use Rattle.tla_ast.specs.declared.place.Place.{Place}
 use Rattle.plain_syntax.specs.Plain.{Text}
 use Rattle.symbol_table.specs.Symbols.{symbol_at, noted, unless_found}
@@ -20,35 +22,13 @@ pub prefix_over : {A : Type 0} (xs ys zs : List A) → IsPrefix xs ys → IsPref
 prefix_over xs ys zs (u, e) (v, k) = (u ++ v, sym (append_assoc xs u v) ∙ ap (λ l. l ++ v) e ∙ k)
 
 pub prefix_take : {A : Type 0} (xs zs : List A) → IsPrefix xs zs → take (length xs) zs ≡ xs
-prefix_take {A = A} xs zs (ys, e) = ap (take (length xs)) (sym e) ∙ go xs ys
-  where
-    go : (xs ys : List A) → take (length xs) (xs ++ ys) ≡ xs
-    go [] [] = refl
-    go [] (y ∷ ys) = refl
-    go (x ∷ xs) ys = ap (λ l. x ∷ l) (go xs ys)
-
-pub prefix_length : {A : Type 0} (xs zs : List A) → IsPrefix xs zs → length xs ≤ length zs
-prefix_length {A = A} xs zs (ys, e) = subst (λ (l : List A). length xs ≤ length l) e (go xs)
-  where
-    go : (xs : List A) → length xs ≤ length (xs ++ ys)
-    go [] = omega arith
-    go (x ∷ xs) = let h : length xs ≤ length (xs ++ ys) = go xs in omega arith
+prefix_take xs zs (ys, e) = ap (take (length xs)) (sym e) ∙ take-append_seam xs ys
 
 pub get_prefix : {A : Type 0} (d : A) (xs zs : List A) (n : ℕ) → IsPrefix xs zs → n < length xs → get_or zs n d ≡ get_or xs n d
-get_prefix {A = A} d xs zs n (ys, e) h = ap (λ l. get_or l n d) (sym e) ∙ go xs n h
-  where
-    go : (xs : List A) (n : ℕ) → n < length xs → get_or (xs ++ ys) n d ≡ get_or xs n d
-    go [] n h = absurd (let no : ⊥ = omega (arith, h) in no)
-    go (x ∷ xs) zero h = refl
-    go (x ∷ xs) (suc n) h = go xs n (omega arith)
-
-pub get_last : {A : Type 0} (d x : A) (xs : List A) → get_or (xs ++ x ∷ []) (length xs) d ≡ x
-get_last d x [] = refl
-get_last d x (y ∷ xs) = get_last d x xs
+get_prefix d xs zs n (ys, e) h = ap (λ l. get_or l n d) (sym e) ∙ get_or_append_left xs ys d n h
 
 pub length_last : {A : Type 0} (xs : List A) (x : A) → length (xs ++ x ∷ []) ≡ suc (length xs)
-length_last [] x = refl
-length_last (y ∷ xs) x = ap suc (length_last xs x)
+length_last xs x = let e = length-append xs (x ∷ []) in omega (arith, e)
 
 pub not_empty : {A : Type 0} (xs : List A) (x : A) (B : Type 0) → xs ++ x ∷ [] ≡ [] → B
 not_empty [] x B e = cc
@@ -85,11 +65,8 @@ each_append Q (x ∷ xs) ys h k = (h.0, each_append Q xs ys h.1 k)
 -- ---- places
 
 pub same-place : (p : Place) → same_place p p ≡ true
-same-place p = both (nat_eq p.line p.line) (nat_eq p.column p.column) (self p.line) (self p.column)
+same-place p = both (nat_eq p.line p.line) (nat_eq p.column p.column) (nat-refl p.line) (nat-refl p.column)
   where
-    self : (n : ℕ) → nat_eq n n ≡ true
-    self n = grind (arith, nat_tests)
-
     both : (a b : Bool) → a ≡ true → b ≡ true → a && b ≡ true
     both a b p q = cc
 

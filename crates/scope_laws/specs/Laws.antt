@@ -8,7 +8,7 @@ use Rattle.module_scope.specs.Names.{Book, Walk, entries_of, symbols_of, means, 
 use Rattle.prime_expand.specs.Core.{core_of, bodies, flags_in}
 use Rattle.prime_expand.specs.Laws.{Holds, IsOver}
 use Rattle.scope_laws.specs.Places.{places, decl_places}
-use Rattle.scope_laws.specs.States.{Free, Known, Later, IsFine, is_inside}
+use Rattle.scope_laws.specs.States.{Free, Known, Later, IsFine, is_allowed}
 
 -- the walk over a definition's parameters and text; the definition has the next number after it
 abbrev pub body_names : List Decl → Term → Walk
@@ -22,25 +22,25 @@ abbrev pub NumbersGrow : Type 0
 NumbersGrow = ((t : Term) → Grows (names t)) × ((ps : List Decl) (t : Term) → Grows (body_names ps t))
 
 -- After a walk without faults each name of an expression is bound in it, or means an entry that was in scope before, and that fits: in
--- sort, in the number of arguments, and in what is primed.
+-- sort, in the number of arguments, and in what is primed. Allowed may be the numbers in scope, or those below a definition's own.
 abbrev pub NamesAreFine : Type 0
 NamesAreFine =
-    (ok : ℕ → Bool) (t : Term) (b c : Book) → Known ok b → Free (symbols_of b) (places t) → Later (names t b) c
-    → IsFine (means c) (entries_of c) ok [] t
+    (allowed : ℕ → Bool) (t : Term) (b c : Book) → Known allowed b → Free (symbols_of b) (places t) → Later (names t b) c
+    → IsFine (means c) (entries_of c) allowed [] t
 
 abbrev pub BodiesAreFine : Type 0
 BodiesAreFine =
-    (ok : ℕ → Bool) (ps : List Decl) (t : Term) (b c : Book) → Known ok b → Free (symbols_of b) (decl_places ps ++ places t) → Later (body_names ps t b) c
-    → IsFine (means c) (entries_of c) ok ps t
+    (allowed : ℕ → Bool) (ps : List Decl) (t : Term) (b c : Book) → Known allowed b → Free (symbols_of b) (decl_places ps ++ places t) → Later (body_names ps t b) c
+    → IsFine (means c) (entries_of c) allowed ps t
 
 -- so the core of an expression is closed, over symbols of what was in scope
 abbrev pub CoresAreInScope : Type 0
 CoresAreInScope =
-    (ok : ℕ → Bool) (t : Term) (b c : Book) → Known ok b → Free (symbols_of b) (places t) → Later (names t b) c
-    → IsOver (Holds (is_inside (entries_of c) ok)) 0 (core_of (means c) (entries_of c) t)
+    (allowed : ℕ → Bool) (t : Term) (b c : Book) → Known allowed b → Free (symbols_of b) (places t) → Later (names t b) c
+    → IsOver (Holds (is_allowed (entries_of c) allowed)) 0 (core_of (means c) (entries_of c) t)
 
 -- and the bodies of a definition are over its parameters and symbols of what was in scope
 abbrev pub BodiesAreInScope : Type 0
 BodiesAreInScope =
-    (ok : ℕ → Bool) (e : Entry) (ps : List Decl) (t : Term) (b c : Book) → Known ok b → Free (symbols_of b) (decl_places ps ++ places t) → Later (body_names ps t b) c → length e.primed ≡ length ps
-    → IsOver (Holds (is_inside (entries_of c) ok)) (length ps + flags_in (means c) (entries_of c) e.primed) (bodies (means c) (entries_of c) e ps t)
+    (allowed : ℕ → Bool) (e : Entry) (ps : List Decl) (t : Term) (b c : Book) → Known allowed b → Free (symbols_of b) (decl_places ps ++ places t) → Later (body_names ps t b) c → length e.primed ≡ length ps
+    → IsOver (Holds (is_allowed (entries_of c) allowed)) (length ps + flags_in (means c) (entries_of c) e.primed) (bodies (means c) (entries_of c) e ps t)

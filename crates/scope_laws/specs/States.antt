@@ -38,11 +38,11 @@ abbrev pub is_bound : EntrySort → Bool
 is_bound sorts.Bound = true
 is_bound _ = false
 
--- What is in scope outside of expressions is inside of this: STRING, which is the entry 0, and what each name means. No bound name is
--- in scope there.
-pub record Known (inside : ℕ → Bool) (b : Book) : Type 0 where
-  pub string : (inside 0 ≡ true) × (0 < length (entries_of b)) × ((entry_of (entries_of b) 0).sort ≡ sorts.Library)
-  pub scope : Each (λ n. (n < length (entries_of b)) × (inside n ≡ true) × (is_bound (entry_of (entries_of b) n).sort ≡ false)) (scope_of b)
+-- Outside of expressions the numbers in scope are allowed: that of STRING, which is the entry 0, and those of all names. No bound name
+-- is in scope there.
+pub record Known (allowed : ℕ → Bool) (b : Book) : Type 0 where
+  pub string : (allowed 0 ≡ true) × (0 < length (entries_of b)) × ((entry_of (entries_of b) 0).sort ≡ sorts.Library)
+  pub scope : Each (λ n. (n < length (entries_of b)) × (allowed n ≡ true) × (is_bound (entry_of (entries_of b) n).sort ≡ false)) (scope_of b)
 
 -- a state that comes after another, without a fault up to the earlier one
 pub record Later (b c : Book) : Type 0 where
@@ -67,10 +67,10 @@ gives sorts.Definition e kinds.Defined k = nat_eq (extended_arity e) k
 gives sorts.Definition e kinds.DefinedPrimed k = has_any e.level && nat_eq (extended_arity e) k
 gives s e kind k = false
 
--- whether a symbol with k arguments is one that an entry inside of this gives
-abbrev pub is_inside : List Entry → (ℕ → Bool) → Sym → ℕ → Bool
-is_inside entries inside f k = inside f.number && nat_eq f.arity k && gives (entry_of entries f.number).sort (entry_of entries f.number) f.kind k
+-- whether a symbol with k arguments is one that an entry of an allowed number gives
+abbrev pub is_allowed : List Entry → (ℕ → Bool) → Sym → ℕ → Bool
+is_allowed entries allowed f k = allowed f.number && nat_eq f.arity k && gives (entry_of entries f.number).sort (entry_of entries f.number) f.kind k
 
--- each name of a text with parameters is bound there, or means an entry inside of this, which fits
+-- each name of a text with parameters is bound there, or means an entry of an allowed number, which fits
 abbrev pub IsFine : (Place → Option ℕ) → List Entry → (ℕ → Bool) → List Decl → Term → Type 0
-IsFine means entries inside ps t = SymbolsFine (Holds (is_inside entries inside)) means entries (with_decls means [] ps) t
+IsFine means entries allowed ps t = SymbolsFine (Holds (is_allowed entries allowed)) means entries (with_decls means [] ps) t
