@@ -5,3 +5,5 @@ pub mod Core
 pub mod Env
 pub mod Walk
 pub mod Bodies
+pub mod Fine
+pub mod Laws
