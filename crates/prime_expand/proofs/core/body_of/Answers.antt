@@ -1,9 +1,8 @@
-use Rattle.std.proofs.Common.{rules, ◌≡◌, ℕ, ◌+◌, Option, Some, None, refl, ap, sym, ◌∙◌, length}
+use Rattle.std.proofs.Common.{◌≡◌, ℕ, ◌+◌, Option, Some, None, refl, ap, sym, ◌∙◌, length}
 use Rattle.std.specs.Option.{option_copied, unwrap_or}
 use Rattle.std.proofs.lemmas.Option.{unwrap_or-slice_get}
 use Rattle.tla_ast.specs.declared.tree.Def.{out-Def}
 use Rattle.plain_syntax.specs.Syntax.{term_of}
-use Rattle.symbol_table.specs.declared.entry.Entry.{Entry}
 use Rattle.symbol_table.specs.Scoped.{entry_of, symbol, unlisted}
 use Rattle.prime_expand.specs.Core.{bodies, flags_in, half, kind_of}
 use Rattle.prime_expand.specs.Bodies.{number_of, defined_number, defined_entry}
