@@ -9,8 +9,8 @@
 #![tactic(auto)]
 
 mod both;
-mod core;
 mod env;
+mod expand;
 mod forms;
 mod laws;
 mod operators;
@@ -20,5 +20,5 @@ mod task;
 mod walk;
 
 pub use both::Both;
-pub use core::{body_of, to_core};
+pub use expand::{body_of, to_core};
 pub use laws::{constants_are_own_primes, cores_are_scoped};

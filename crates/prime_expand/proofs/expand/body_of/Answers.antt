@@ -6,7 +6,7 @@ use Rattle.plain_syntax.specs.Syntax.{term_of}
 use Rattle.symbol_table.specs.Scoped.{entry_of, symbol, unlisted}
 use Rattle.prime_expand.specs.Core.{bodies, flags_in, half, kind_of}
 use Rattle.prime_expand.specs.Bodies.{number_of, defined_number, defined_entry}
-use Rattle.prime_expand.proofs.core.body_of.Goals as goal
+use Rattle.prime_expand.proofs.expand.body_of.Goals as goal
 
 numbered : (o : Option ℕ) → unwrap_or o 0 ≡ number_of o
 numbered None = refl
