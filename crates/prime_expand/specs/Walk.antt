@@ -1,5 +1,5 @@
 -- The walk over an expression: tasks on a stack, each of which takes the last cores of another stack and puts one in their place.
-use Rattle.std.specs.Prelude.{ℕ, suc, ◌+◌, ◌-◌, List, [], ◌∷◌, ◌++◌, length, take, drop, Option, Some, None}
+use Rattle.std.specs.Prelude.{◌≡◌, ℕ, suc, ◌+◌, ◌-◌, List, [], ◌∷◌, ◌++◌, length, take, drop, map, Option, Some, None}
 use Rattle.tla_ast.specs.declared.place.Place.{Place}
 use Rattle.tla_ast.specs.declared.tree.Node.{Node, out-Node}
 use Rattle.tla_ast.specs.declared.tree.Form.{out-Form}
@@ -9,7 +9,7 @@ use Rattle.core_expr.specs.declared.head.Binder.TheVariants.{All, Ex, Choose, Fi
 use Rattle.core_expr.specs.Tree.{true_}
 use Rattle.plain_syntax.specs.Plain.{Term, Terms, Keys, Updates, Groups, Defs}
 use Rattle.tla_ast.specs.declared.tree.Def.{Def, out-Def}
-use Rattle.plain_syntax.specs.Syntax.{term_of, each_def}
+use Rattle.plain_syntax.specs.Syntax.{term_of, terms_of, each_def}
 use Rattle.prime_expand.specs.declared.both.Both.{Both}
 use Rattle.prime_expand.specs.declared.env.Names.{Names}
 use Rattle.prime_expand.specs.declared.task.Quantifier.{Quantifier}
@@ -25,6 +25,10 @@ use Rattle.prime_expand.specs.Symbols.{by_prefix, by_infix}
 use Rattle.prime_expand.specs.Forms.{string, along, updated, record_of, records_of, case_of}
 use Rattle.prime_expand.specs.Core.{Env, Standing, at_depth, known_as, variable, names_in, keys, updates, wrapped, over_names, over_set}
 use Rattle.prime_expand.specs.Env.{env_of, standing_of, means, entries, core_at, cores_at, grouping, defining, arguing, flat_by, primed_of, field_of, used_at, over_at}
+
+-- the plain data of nodes
+abbrev pub terms_in : List Node → Terms
+terms_in ns = terms_of (map term_of ns)
 
 -- ---- where an expression stands
 
@@ -177,3 +181,21 @@ run c (task.Update r ks) vs = taken 1 vs (λ bs. updated r ks.items (part_at 0 b
 abbrev pub finish : Names → List Task → List Both → List Both
 finish c [] vs = vs
 finish c (t ∷ ts) vs = run c t (finish c ts vs)
+
+-- ---- what a function that puts tasks on the list makes of the cores
+
+-- this core, behind the others
+abbrev pub Makes : Names → List Task → List Task → Both → Type 0
+Makes c old new b = (vs : List Both) → finish c new vs ≡ finish c old (vs ++ b ∷ [])
+
+-- these cores, behind the others
+abbrev pub MakesAll : Names → List Task → List Task → List Both → Type 0
+MakesAll c old new bs = (vs : List Both) → finish c new vs ≡ finish c old (vs ++ bs)
+
+-- this of the last core
+abbrev pub Changes : Names → List Task → List Task → (Both → Both) → Type 0
+Changes c old new f = (vs : List Both) (p : Both) → finish c new (vs ++ p ∷ []) ≡ finish c old (vs ++ f p ∷ [])
+
+-- of tasks and cores, what they were with one core more
+abbrev pub Adds : Names → List Task → List Both → List Task → List Both → Both → Type 0
+Adds c old before new after b = finish c new after ≡ finish c old (before ++ b ∷ [])

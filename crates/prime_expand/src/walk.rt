@@ -1,15 +1,15 @@
 //! The walk over an expression: a loop over tasks that wait on a stack. So neither operators, nor definitions of a LET that use
 //! one another, nor brackets nest on the program's own stack.
 
-ghost use Rattle.std.specs.Prelude.{◌≡◌, List, ◌∷◌, ◌++◌, [], length, take, drop, ◌-◌, map, IfOk, OnOk};
+ghost use Rattle.std.specs.Prelude.{◌≡◌, ◌∷◌, [], length, take, drop, ◌-◌, map, IfOk, OnOk};
 ghost use Rattle.tla_ast.specs.declared.tree.Node.{out-Node};
 ghost use Rattle.tla_ast.specs.declared.tree.Group.{out-Group};
-ghost use Rattle.plain_syntax.specs.Syntax.{term_of, terms_of, each_group, each_def, each_key, key_keys, keys_of, updates_of, except_of};
+ghost use Rattle.plain_syntax.specs.Syntax.{term_of, each_group, each_def, each_key, keys_of, updates_of, except_of};
 ghost use Rattle.prime_expand.specs.Core.{quantifier_of};
 ghost use Rattle.prime_expand.specs.Both.{part_at};
 ghost use Rattle.prime_expand.specs.Env as env;
 ghost use Rattle.prime_expand.specs.Walk as spec;
-ghost use Rattle.prime_expand.specs.Walk.{point, finish, run, core_from, cores_from, keys_from, quantified_by, ranged_by};
+ghost use Rattle.prime_expand.specs.Walk.{point, terms_in, finish, run, core_from, cores_from, keys_from, quantified_by, ranged_by};
 
 use crate::both::Both;
 use crate::env::{Env, Found, Frame, Names, Standing, count_names, deeper};
@@ -42,8 +42,8 @@ fn push_reads<'a>(
     spot: &Spot<'a>,
     nodes: &'a [Node],
 ) -> Result<(), Memory>
-    ensures { OnOk result ((names : Names) (vs : List Both) → finish names tasks.new.items vs
-        ≡ finish names tasks.old.items (vs ++ cores_from names (point names spot.now) (terms_of (map term_of nodes.entry.now)))) }
+    ensures { OnOk result ((names : Names) → spec.MakesAll names tasks.old.items tasks.new.items
+        (cores_from names (point names spot.now) (terms_in nodes.entry.now))) }
 {
     for i in (0..nodes.len()).rev() {
         let spot = spot.copy()?;
@@ -57,8 +57,8 @@ fn push_reads<'a>(
 
 /// Reads a key of a path.
 fn push_key<'a>(tasks: &mut Vec<Task<'a>>, spot: &Spot<'a>, key: &'a Key) -> Result<(), Memory>
-    ensures { OnOk result ((names : Names) (vs : List Both) → finish names tasks.new.items vs
-        ≡ finish names tasks.old.items (vs ++ keys_from names (point names spot.now) (each_key (key.entry.now ∷ [])))) }
+    ensures { OnOk result ((names : Names) → spec.MakesAll names tasks.old.items tasks.new.items
+        (keys_from names (point names spot.now) (each_key (key.entry.now ∷ [])))) }
 {
     match key {
         Key::At(node) => {
@@ -72,8 +72,8 @@ fn push_key<'a>(tasks: &mut Vec<Task<'a>>, spot: &Spot<'a>, key: &'a Key) -> Res
 
 /// Reads the keys of a path, the first of them next.
 fn push_keys<'a>(tasks: &mut Vec<Task<'a>>, spot: &Spot<'a>, keys: &'a [Key]) -> Result<(), Memory>
-    ensures { OnOk result ((names : Names) (vs : List Both) → finish names tasks.new.items vs
-        ≡ finish names tasks.old.items (vs ++ keys_from names (point names spot.now) (each_key keys.entry.now))) }
+    ensures { OnOk result ((names : Names) → spec.MakesAll names tasks.old.items tasks.new.items
+        (keys_from names (point names spot.now) (each_key keys.entry.now))) }
 {
     for i in (0..keys.len()).rev() {
         push_key(tasks, spot, &keys[i])?;
@@ -112,9 +112,9 @@ impl Names<'_> {
         spot: Spot<'a>,
         node: &'a Node,
     ) -> Result<(), Memory>
-        ensures { OnOk result ((vs : List Both) → finish self.now tasks.new.items vs ≡ finish self.now tasks.old.items
-            (vs ++ spec.joined self.now (point self.now spot.entry) node.entry.now
-            (cores_from self.now (point self.now spot.entry) (terms_of (map term_of (out-Node node.entry.now).parts))) ∷ [])) }
+        ensures { OnOk result (spec.Makes self.now tasks.old.items tasks.new.items
+            (spec.joined self.now (point self.now spot.entry) node.entry.now
+            (cores_from self.now (point self.now spot.entry) (terms_in (out-Node node.entry.now).parts)))) }
     {
         let parts = node.parts.as_slice();
         let here = spot.copy()?;
@@ -134,9 +134,9 @@ impl Names<'_> {
         spot: Spot<'a>,
         node: &'a Node,
     ) -> Result<(), Memory>
-        ensures { OnOk result ((vs : List Both) → finish self.now tasks.new.items vs ≡ finish self.now tasks.old.items
-            (vs ++ spec.joined self.now (point self.now spot.entry) node.entry.now (cores_from self.now
-            (spec.deeper (point self.now spot.entry)) (terms_of (map term_of (out-Node node.entry.now).parts))) ∷ [])) }
+        ensures { OnOk result (spec.Makes self.now tasks.old.items tasks.new.items
+            (spec.joined self.now (point self.now spot.entry) node.entry.now (cores_from self.now
+            (spec.deeper (point self.now spot.entry)) (terms_in (out-Node node.entry.now).parts)))) }
     {
         let parts = node.parts.as_slice();
         let inner = spot.at_depth(deeper(spot.depth, 1)?)?;
@@ -156,11 +156,11 @@ impl Names<'_> {
         spot: Spot<'a>,
         node: &'a Node,
     ) -> Result<(), Memory>
-        ensures { OnOk result ((vs : List Both) → finish self.now tasks.new.items vs ≡ finish self.now tasks.old.items
-            (vs ++ spec.joined self.now (point self.now spot.entry) node.entry.now
-            (cores_from self.now (point self.now spot.entry) (terms_of (map term_of (out-Node node.entry.now).parts))
+        ensures { OnOk result (spec.Makes self.now tasks.old.items tasks.new.items
+            (spec.joined self.now (point self.now spot.entry) node.entry.now
+            (cores_from self.now (point self.now spot.entry) (terms_in (out-Node node.entry.now).parts)
             ++ cores_from self.now (spec.deeper (point self.now spot.entry))
-            (terms_of (map term_of (out-Node node.entry.now).parts))) ∷ [])) }
+            (terms_in (out-Node node.entry.now).parts)))) }
     {
         let parts = node.parts.as_slice();
         let here = spot.copy()?;
@@ -262,9 +262,9 @@ impl Names<'_> {
         binder: Comprehension,
         node: &'a Node,
     ) -> Result<(), Memory>
-        ensures { OnOk result ((vs : List Both) → finish self.now tasks.new.items vs ≡ finish self.now tasks.old.items
-            (vs ++ spec.over_from self.now (point self.now spot.entry) (ranged_by binder) (out-Node node.entry.now).place
-            (terms_of (map term_of (out-Node node.entry.now).parts)) ∷ [])) }
+        ensures { OnOk result (spec.Makes self.now tasks.old.items tasks.new.items
+            (spec.over_from self.now (point self.now spot.entry) (ranged_by binder) (out-Node node.entry.now).place
+            (terms_in (out-Node node.entry.now).parts))) }
     {
         let parts = node.parts.as_slice();
         let Some((set, rest)) = parts.split_first() else {
@@ -290,8 +290,8 @@ impl Names<'_> {
         domain: &'a Option<Boxed<Node>>,
         depth: u64,
     ) -> Result<(), Memory>
-        ensures { OnOk result ((vs : List Both) (p : Both) → finish self.now tasks.new.items (vs ++ p ∷ [])
-            ≡ finish self.now tasks.old.items (vs ++ spec.bound_once self.now (point self.now spot.now) (quantified_by binder) domain.entry.now depth p ∷ [])) }
+        ensures { OnOk result (spec.Changes self.now tasks.old.items tasks.new.items
+            (λ p. spec.bound_once self.now (point self.now spot.now) (quantified_by binder) domain.entry.now depth p)) }
     {
         match domain {
             None => tasks.push(Task::Free(binder))?,
@@ -316,9 +316,9 @@ impl Names<'_> {
         group: &'a Group,
         depth: u64,
     ) -> Result<(), Memory>
-        ensures { OnOk result ((vs : List Both) (p : Both) → finish self.now tasks.new.items (vs ++ p ∷ [])
-            ≡ finish self.now tasks.old.items (vs ++ spec.bound_names self.now (spec.placed depth (point self.now spot.now)) (quantified_by binder)
-            (out-Group group.entry.now).domain (length (out-Group group.entry.now).names) p ∷ [])) }
+        ensures { OnOk result (spec.Changes self.now tasks.old.items tasks.new.items
+            (λ p. spec.bound_names self.now (spec.placed depth (point self.now spot.now)) (quantified_by binder)
+            (out-Group group.entry.now).domain (length (out-Group group.entry.now).names) p)) }
     {
         for i in 0..group.names.len() {
             let depth = deeper(depth, i as u64 + 1)?;
@@ -335,9 +335,9 @@ impl Names<'_> {
         binder: Quantifier,
         groups: &'a [Group],
     ) -> Result<(), Memory>
-        ensures { OnOk result ((vs : List Both) (p : Both) → finish self.now tasks.new.items (vs ++ p ∷ [])
-            ≡ finish self.now tasks.old.items (vs ++ spec.bound_groups self.now (point self.now spot.now) (quantified_by binder)
-            (each_group groups.entry.now) p ∷ [])) }
+        ensures { OnOk result (spec.Changes self.now tasks.old.items tasks.new.items
+            (λ p. spec.bound_groups self.now (point self.now spot.now) (quantified_by binder)
+            (each_group groups.entry.now) p)) }
     {
         let mut depth = spot.depth;
         for group in groups {
@@ -356,10 +356,10 @@ impl Names<'_> {
         groups: &'a [Group],
         parts: &'a [Node],
     ) -> Result<(), Memory>
-        ensures { OnOk result ((vs : List Both) → finish self.now tasks.new.items vs ≡ finish self.now tasks.old.items
-            (vs ++ spec.bound_groups self.now (point self.now spot.entry) (quantified_by binder) (each_group groups.entry.now)
+        ensures { OnOk result (spec.Makes self.now tasks.old.items tasks.new.items
+            (spec.bound_groups self.now (point self.now spot.entry) (quantified_by binder) (each_group groups.entry.now)
             (spec.first_from self.now (spec.under_groups self.now (each_group groups.entry.now) (point self.now spot.entry))
-            (terms_of (map term_of parts.entry.now))) ∷ [])) }
+            (terms_in parts.entry.now)))) }
     {
         self.push_groups(tasks, &spot, binder, groups)?;
         let inner = self.under_groups(&spot, groups)?;
@@ -376,9 +376,9 @@ impl Names<'_> {
         defs: &'a [Def],
         parts: &'a [Node],
     ) -> Result<(), Memory>
-        ensures { OnOk result ((vs : List Both) → finish self.now tasks.new.items vs ≡ finish self.now tasks.old.items
-            (vs ++ spec.first_from self.now (spec.with_local self.now (each_def defs.entry.now) (point self.now spot.entry))
-            (terms_of (map term_of parts.entry.now)) ∷ [])) }
+        ensures { OnOk result (spec.Makes self.now tasks.old.items tasks.new.items
+            (spec.first_from self.now (spec.with_local self.now (each_def defs.entry.now) (point self.now spot.entry))
+            (terms_in parts.entry.now))) }
     {
         let inner = self.with_local(&spot, defs)?;
         tasks.push(Task::First(parts.len()))?;
@@ -394,9 +394,9 @@ impl Names<'_> {
         path: &'a Path,
         node: &'a Node,
     ) -> Result<(), Memory>
-        ensures { OnOk result ((vs : List Both) (r : Both) → finish self.now tasks.new.items (vs ++ r ∷ [])
-            ≡ finish self.now tasks.old.items (vs ++ spec.update_from self.now (point self.now spot.now)
-            (r ∷ keys_from self.now (point self.now spot.now) (keys_of path.entry.now)) (term_of node.entry.now) ∷ [])) }
+        ensures { OnOk result (spec.Changes self.now tasks.old.items tasks.new.items
+            (λ r. spec.update_from self.now (point self.now spot.now)
+            (r ∷ keys_from self.now (point self.now spot.now) (keys_of path.entry.now)) (term_of node.entry.now))) }
     {
         let keys = path.keys.as_slice();
         let here = spot.copy()?;
@@ -417,9 +417,9 @@ impl Names<'_> {
         paths: &'a [Path],
         news: &'a [Node],
     ) -> Result<(), Memory>
-        ensures { OnOk result ((vs : List Both) (r : Both) → finish self.now tasks.new.items (vs ++ r ∷ [])
-            ≡ finish self.now tasks.old.items (vs ++ spec.updates_from self.now (point self.now spot.now) r
-            (updates_of (map keys_of paths.entry.now) (map term_of news.entry.now)) ∷ [])) }
+        ensures { OnOk result (spec.Changes self.now tasks.old.items tasks.new.items
+            (λ r. spec.updates_from self.now (point self.now spot.now) r
+            (updates_of (map keys_of paths.entry.now) (map term_of news.entry.now)))) }
     {
         for i in (0..news.len()).rev() {
             if let Some(path) = paths.get(i) {
@@ -437,9 +437,9 @@ impl Names<'_> {
         paths: &'a [Path],
         node: &'a Node,
     ) -> Result<(), Memory>
-        ensures { OnOk result ((vs : List Both) → finish self.now tasks.new.items vs ≡ finish self.now tasks.old.items
-            (vs ++ core_from self.now (point self.now spot.entry) (except_of (map keys_of paths.entry.now)
-            (map term_of (out-Node node.entry.now).parts) (out-Node node.entry.now).place) ∷ [])) }
+        ensures { OnOk result (spec.Makes self.now tasks.old.items tasks.new.items
+            (core_from self.now (point self.now spot.entry) (except_of (map keys_of paths.entry.now)
+            (map term_of (out-Node node.entry.now).parts) (out-Node node.entry.now).place))) }
     {
         let Some((value, news)) = node.parts.as_slice().split_first() else {
             tasks.push(Task::First(0))?;
@@ -457,8 +457,8 @@ impl Names<'_> {
         spot: Spot<'a>,
         node: &'a Node,
     ) -> Result<(), Memory>
-        ensures { OnOk result ((vs : List Both) → finish self.now tasks.new.items vs ≡ finish self.now tasks.old.items
-            (vs ++ core_from self.now (point self.now spot.entry) (term_of node.entry.now) ∷ [])) }
+        ensures { OnOk result (spec.Makes self.now tasks.old.items tasks.new.items
+            (core_from self.now (point self.now spot.entry) (term_of node.entry.now))) }
     {
         let parts = node.parts.as_slice();
         match &node.form {
@@ -493,8 +493,8 @@ impl Names<'_> {
         place: Place,
         args: Vec<Both>,
     ) -> Result<(), Memory>
-        ensures { OnOk result (finish self.now tasks.new.items cores.new.items ≡ finish self.now tasks.old.items
-            (cores.old.items ++ env.used_at self.now word.now (point self.now spot.entry).env place spot.entry.depth args.items ∷ [])) }
+        ensures { OnOk result (spec.Adds self.now tasks.old.items cores.old.items tasks.new.items cores.new.items
+            (env.used_at self.now word.now (point self.now spot.entry).env place spot.entry.depth args.items)) }
     {
         let alloc = self.alloc;
         if let Some(head) = value(word) {
@@ -539,8 +539,8 @@ impl Names<'_> {
         node: &'a Node,
         parts: Vec<Both>,
     ) -> Result<(), Memory>
-        ensures { OnOk result (finish self.now tasks.new.items cores.new.items ≡ finish self.now tasks.old.items
-            (cores.old.items ++ spec.joined self.now (point self.now spot.entry) node.entry.now parts.items ∷ [])) }
+        ensures { OnOk result (spec.Adds self.now tasks.old.items cores.old.items tasks.new.items cores.new.items
+            (spec.joined self.now (point self.now spot.entry) node.entry.now parts.items)) }
     {
         match &node.form {
             Form::Name(word) => {
@@ -563,8 +563,8 @@ impl Names<'_> {
         node: &'a Node,
         parts: Vec<Both>,
     ) -> Result<(), Memory>
-        ensures { OnOk result (finish self.now tasks.new.items cores.new.items ≡ finish self.now tasks.old.items
-            (cores.old.items ++ spec.update_from self.now (point self.now spot.entry) parts.items (term_of node.entry.now) ∷ [])) }
+        ensures { OnOk result (spec.Adds self.now tasks.old.items cores.old.items tasks.new.items cores.new.items
+            (spec.update_from self.now (point self.now spot.entry) parts.items (term_of node.entry.now))) }
     {
         let alloc = self.alloc;
         let mut keys = parts;
