@@ -33,7 +33,11 @@ impl Both {
 impl Names<'_> {
     /// The spot of an expression that stands by itself.
     fn outermost<'a>(&self) -> Result<Spot<'a>, Memory>
-        ensures { IfOk result (λ s. point self.now s ≡ record { env = []; at = spec.nothing (means self.now) (entries self.now); depth = 0 }) }
+        ensures { IfOk result (λ s. point self.now s ≡ record {
+          env = [];
+          at = spec.nothing (means self.now) (entries self.now);
+          depth = 0;
+        }) }
     {
         let env = Rc::new(self.alloc, Env::Empty)?;
         let value = Both::truth(self.alloc)?;
@@ -89,7 +93,8 @@ impl Names<'_> {
 
     /// The parameters of a definition as loose variables, and those that it primes once more behind them.
     fn loose(&self, left: u64, more: u64, flags: &[bool]) -> Result<Vec<Both>, Memory>
-        ensures { IfOk result (λ v. v.items ≡ spec.loose (means self.now) (entries self.now) left more flags.now) }
+        ensures { IfOk result (λ v. v.items
+            ≡ spec.loose (means self.now) (entries self.now) left more flags.now) }
     {
         let mut left = left;
         let mut more = more;
@@ -148,7 +153,8 @@ impl Names<'_> {
         ensures { IfOk result (λ s. s ≡ record {
           kind = spec.kind_of (means self.now) (entries self.now) entry.now primed;
           number = number;
-          arity = length (out-Def def.now).params + spec.flags_in (means self.now) (entries self.now) entry.now.primed;
+          arity = length (out-Def def.now).params
+              + spec.flags_in (means self.now) (entries self.now) entry.now.primed;
         }) }
     {
         let more = self.count_flags(entry.primed.as_slice())?;
@@ -178,7 +184,8 @@ impl Names<'_> {
         ensures symbol { IfOk result (λ p. p.0 ≡ record {
           kind = spec.kind_of (means self.now) (entries self.now) entry.now primed;
           number = number;
-          arity = length (out-Def def.now).params + spec.flags_in (means self.now) (entries self.now) entry.now.primed;
+          arity = length (out-Def def.now).params
+              + spec.flags_in (means self.now) (entries self.now) entry.now.primed;
         }) }
         ensures body { IfOk result (λ p. p.1 ≡ spec.half primed (spec.bodies (means self.now) (entries self.now)
             entry.now (out-Def def.now).params (term_of (out-Def def.now).body))) }

@@ -1,7 +1,7 @@
 //! The walk over an expression: a loop over tasks that wait on a stack. So neither operators, nor definitions of a LET that use
 //! one another, nor brackets nest on the program's own stack.
 
-ghost use Rattle.std.specs.Prelude.{◌≡◌, ◌∷◌, [], length, take, drop, ◌-◌, map, IfOk, OnOk};
+ghost use Rattle.std.specs.Prelude.{◌≡◌, ◌∷◌, ◌++◌, [], length, take, drop, ◌-◌, map, IfOk, OnOk};
 ghost use Rattle.tla_ast.specs.declared.tree.Node.{out-Node};
 ghost use Rattle.tla_ast.specs.declared.tree.Group.{out-Group};
 ghost use Rattle.plain_syntax.specs.Syntax.{term_of, each_group, each_def, each_key, keys_of, updates_of, except_of};
@@ -493,7 +493,8 @@ impl Names<'_> {
         place: Place,
         args: Vec<Both>,
     ) -> Result<(), Memory>
-        ensures { OnOk result (spec.Adds self.now tasks.old.items cores.old.items tasks.new.items cores.new.items
+        ensures { OnOk result (spec.Adds self.now
+            tasks.old.items cores.old.items tasks.new.items cores.new.items
             (env.used_at self.now word.now (point self.now spot.entry).env place spot.entry.depth args.items)) }
     {
         let alloc = self.alloc;
@@ -539,7 +540,8 @@ impl Names<'_> {
         node: &'a Node,
         parts: Vec<Both>,
     ) -> Result<(), Memory>
-        ensures { OnOk result (spec.Adds self.now tasks.old.items cores.old.items tasks.new.items cores.new.items
+        ensures { OnOk result (spec.Adds self.now
+            tasks.old.items cores.old.items tasks.new.items cores.new.items
             (spec.joined self.now (point self.now spot.entry) node.entry.now parts.items)) }
     {
         match &node.form {
@@ -563,7 +565,8 @@ impl Names<'_> {
         node: &'a Node,
         parts: Vec<Both>,
     ) -> Result<(), Memory>
-        ensures { OnOk result (spec.Adds self.now tasks.old.items cores.old.items tasks.new.items cores.new.items
+        ensures { OnOk result (spec.Adds self.now
+            tasks.old.items cores.old.items tasks.new.items cores.new.items
             (spec.update_from self.now (point self.now spot.entry) parts.items (term_of node.entry.now))) }
     {
         let alloc = self.alloc;
