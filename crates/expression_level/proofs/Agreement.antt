@@ -1,13 +1,13 @@
 -- The linear form of levels is the levels: under any levels of the parameters, a weight has the level of its expression, and a fault
 -- where there is one.
-use Rattle.std.proofs.Common.{◌≡◌, ℕ, zero, suc, ◌≤◌, Bool, true, false, ◌||◌, nat_lt, List, [], ◌∷◌, ◌++◌, map, take, drop, length, refl, sym, ap, ◌∙◌, arith, append-nil}
+use Rattle.std.proofs.Common.{◌≡◌, ℕ, zero, suc, ◌≤◌, Bool, true, false, ◌||◌, nat_lt, if◌then◌else◌, List, [], ◌∷◌, ◌++◌, map, take, drop, length, refl, sym, ap, ◌∙◌, arith, append-nil}
 use Rattle.tla_ast.specs.declared.place.Place.{Place}
 use Rattle.expression_level.specs.declared.weight.Use.{Use}
 use Rattle.expression_level.specs.Levels.{Judged, Several, Applied, higher, greatest, raised, has_fault, fault_if, before, beside, overall, at_name, limited, primed_level, action_level}
 use Rattle.expression_level.specs.Weights as w
-use Rattle.expression_level.specs.Weights.{Weight, Known, Env, counted, is_over, level_from, breaks, level_under, fault_under, nothing, join, total, fixed, with_fault, capped, lifted, put, put_breaks, depth_of, function_of, padded, unused, uses_of, parameter, definition, unlimited, result_so_far, asked_round}
+use Rattle.expression_level.specs.Weights.{Weight, Known, Env, counted, is_over, level_from, breaks, level_under, fault_under, nothing, join, total, fixed, with_fault, capped, lifted, put, put_breaks, depth_of, function_of, padded, unused, uses_of, parameter, definition, unlimited, result_so_far, asked_round, primed_use, all_primed, marked, named}
 use Rattle.expression_level.specs.Weights.Known.{arguments, defined}
-use Rattle.expression_level.proofs.Evaluation.{higher-zero, higher-none, higher-assoc, or-false, or-shuffle, counted-none, over-nothing, level-join, fault-join, level-fixed, fault-fixed, level-lifted, fault-lifted, level-capped, fault-capped, fault-with, has-fault-append, has-fault-if, level-put, put-has-no-fault, breaks-put}
+use Rattle.expression_level.proofs.Evaluation.{higher-zero, higher-none, higher-assoc, or-false, or-shuffle, counted-none, over-nothing, level-join, fault-join, level-fixed, fault-fixed, level-lifted, fault-lifted, level-capped, fault-capped, fault-with, has-fault-append, has-fault-if, level-same, breaks-same, level-put, put-has-no-fault, breaks-put}
 
 -- ---- all levels 0
 
@@ -82,6 +82,9 @@ stands-action r p a v x y s t =
       ),
     )
 
+pub stands-all-primed : (r : List ℕ) (j : Judged) (x : Weight) → Stands r j x → Stands r j (all_primed x)
+stands-all-primed r j x s = (s.0 ∙ ap (higher x.least) (sym (level-same primed_use (λ u l. refl) x.uses r)), (s.1.0 ∙ ap (λ b. has_fault x.faults || b) (sym (breaks-same primed_use (λ u l. refl) x.uses r)), s.1.1))
+
 -- ---- several expressions
 
 abbrev pub StandEach : List ℕ → Several → List Weight → Type 0
@@ -99,6 +102,32 @@ greatest-total r (x ∷ xs) = ap (higher (level_under r x)) (greatest-total r xs
 
 pub stands-overall : (r : List ℕ) (js : Several) (xs : List Weight) → StandEach r js xs → Stands r (overall js) (total xs)
 stands-overall r js xs t = (ap greatest t.0 ∙ greatest-total r xs, t.1)
+
+pub stand-marked : (r : List ℕ) (fs : List Bool) (js : Several) (xs : List Weight) → StandEach r js xs → StandEach r js (marked fs xs)
+stand-marked r fs js xs s = (s.0 ∙ sym (same-levels fs xs), (s.1.0 ∙ sym (same-fault fs xs), λ z. s.1.1 z ∙ sym (same-faults fs xs)))
+  where
+    one-level : (b : Bool) (x : Weight) → level_under r (if b then all_primed x else x) ≡ level_under r x
+    one-level true x = ap (higher x.least) (level-same primed_use (λ u l. refl) x.uses r)
+    one-level false x = refl
+    one-fault : (b : Bool) (x : Weight) → fault_under r (if b then all_primed x else x) ≡ fault_under r x
+    one-fault true x = ap (λ c. has_fault x.faults || c) (breaks-same primed_use (λ u l. refl) x.uses r)
+    one-fault false x = refl
+    same-place : (b : Bool) (x : Weight) → (if b then all_primed x else x).faults ≡ x.faults
+    same-place true x = refl
+    same-place false x = refl
+    same-levels : (fs : List Bool) (xs : List Weight) → map (level_under r) (marked fs xs) ≡ map (level_under r) xs
+    same-levels [] xs = refl
+    same-levels (b ∷ fs) [] = refl
+    same-levels (b ∷ fs) (x ∷ xs) = λ i. one-level b x i ∷ same-levels fs xs i
+    same-fault : (fs : List Bool) (xs : List Weight) → fault_under r (total (marked fs xs)) ≡ fault_under r (total xs)
+    same-fault [] xs = refl
+    same-fault (b ∷ fs) [] = refl
+    same-fault (b ∷ fs) (x ∷ xs) =
+        fault-join r (if b then all_primed x else x) (total (marked fs xs)) ∙ (λ i. one-fault b x i || same-fault fs xs i) ∙ sym (fault-join r x (total xs))
+    same-faults : (fs : List Bool) (xs : List Weight) → (total (marked fs xs)).faults ≡ (total xs).faults
+    same-faults [] xs = refl
+    same-faults (b ∷ fs) [] = refl
+    same-faults (b ∷ fs) (x ∷ xs) = λ i. same-place b x i ++ same-faults fs xs i
 
 -- ---- names
 
@@ -145,7 +174,9 @@ stands-at-name r p f arguments js xs n t =
 stands-at-name r p f (defined d l us b) js xs n t =
     let args = map (level_under r) xs in
     let e = n.1 js.0 ∙ ap (function_of r (defined d l us b)) t.0 in
-    let own : Weight = record { least = l; uses = take d us; faults = [] } in
+    let own : Weight = record { least = l; uses = map named (take d us); faults = [] } in
+    let own-level = level-same named (λ u l. refl) (take d us) r in
+    let own-breaks = breaks-same named (λ u l. refl) (take d us) r in
     let x = put (drop d us) xs in
     let q = put_breaks (drop d us) xs in
     let all = join (fixed 0 (total xs)) (join own x) in
@@ -153,7 +184,7 @@ stands-at-name r p f (defined d l us b) js xs n t =
     ap (λ y. y.0) e
     ∙ ap (higher l) (split-level d us r args n.0)
     ∙ sym (higher-assoc l (level_from (take d us) r) (level_from (drop d us) args))
-    ∙ ap (higher (level_under r own)) (level-put (drop d us) xs r)
+    ∙ (λ i. higher (higher l (sym own-level i)) (level-put (drop d us) xs r i))
     ∙ sym (level-join r own x)
     ∙ sym (higher-zero (level_under r (join own x)))
     ∙ ap (λ y. higher y (level_under r (join own x))) (sym (level-fixed r 0 (total xs)))
@@ -170,7 +201,7 @@ stands-at-name r p f (defined d l us b) js xs n t =
     fault-with r (b || q) p all
     ∙ ap (λ y. y || (b || q)) (
     fault-join r (fixed 0 (total xs)) (join own x)
-    ∙ (λ i. fault-fixed r 0 (total xs) i || (fault-join r own x ∙ ap (λ y. breaks (take d us) r || y) under) i)
+    ∙ (λ i. fault-fixed r 0 (total xs) i || (fault-join r own x ∙ (λ j. own-breaks j || under j)) i)
     )
     )
     in (

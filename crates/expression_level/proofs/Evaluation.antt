@@ -169,31 +169,27 @@ breaks-all (u ∷ us) (v ∷ vs) (l ∷ ls) =
     (λ i. over-stricter u.limit v.limit l i || breaks-all us vs ls i)
     ∙ or-shuffle (is_over u.limit l) (is_over v.limit l) (breaks us ls) (breaks vs ls)
 
+-- a change that leaves levels as they are, and one that leaves limits
+pub level-same : (f : Use → Use) → ((u : Use) (l : ℕ) → counted (f u) l ≡ counted u l) → (us : List Use) (ls : List ℕ) → level_from (map f us) ls ≡ level_from us ls
+level-same f e [] ls = refl
+level-same f e (u ∷ us) [] = refl
+level-same f e (u ∷ us) (l ∷ ls) = λ i. higher (e u l i) (level-same f e us ls i)
+
+pub breaks-same : (f : Use → Use) → ((u : Use) (l : ℕ) → is_over (f u).limit l ≡ is_over u.limit l) → (us : List Use) (ls : List ℕ) → breaks (map f us) ls ≡ breaks us ls
+breaks-same f e [] ls = refl
+breaks-same f e (u ∷ us) [] = refl
+breaks-same f e (u ∷ us) (l ∷ ls) = λ i. e u l i || breaks-same f e us ls i
+
 level-from-kept : (us : List Use) (ls : List ℕ) → level_from (map kept us) ls ≡ 0
 level-from-kept [] ls = refl
 level-from-kept (u ∷ us) [] = refl
 level-from-kept (u ∷ us) (l ∷ ls) = ap (higher 0) (level-from-kept us ls)
-
-breaks-kept : (us : List Use) (ls : List ℕ) → breaks (map kept us) ls ≡ breaks us ls
-breaks-kept [] ls = refl
-breaks-kept (u ∷ us) [] = refl
-breaks-kept (u ∷ us) (l ∷ ls) = ap (λ b. is_over u.limit l || b) (breaks-kept us ls)
 
 level-from-raised : (us : List Use) (ls : List ℕ) → level_from (map raised_use us) ls ≡ raised (level_from us ls)
 level-from-raised [] ls = refl
 level-from-raised (u ∷ us) [] = refl
 level-from-raised (u ∷ us) (l ∷ ls) =
     (λ i. higher (counted-raised u l i) (level-from-raised us ls i)) ∙ sym (raised-higher (counted u l) (level_from us ls))
-
-breaks-raised : (us : List Use) (ls : List ℕ) → breaks (map raised_use us) ls ≡ breaks us ls
-breaks-raised [] ls = refl
-breaks-raised (u ∷ us) [] = refl
-breaks-raised (u ∷ us) (l ∷ ls) = ap (λ b. is_over u.limit l || b) (breaks-raised us ls)
-
-level-from-capped : (k : ℕ) (us : List Use) (ls : List ℕ) → level_from (map (capped_use k) us) ls ≡ level_from us ls
-level-from-capped k [] ls = refl
-level-from-capped k (u ∷ us) [] = refl
-level-from-capped k (u ∷ us) (l ∷ ls) = ap (higher (counted u l)) (level-from-capped k us ls)
 
 breaks-capped : (k : ℕ) (us : List Use) (ls : List ℕ) → breaks (map (capped_use k) us) ls ≡ (breaks us ls || nat_lt k (level_from us ls))
 breaks-capped k [] ls = sym (over-none k)
@@ -251,16 +247,16 @@ pub level-fixed : (ls : List ℕ) (l : ℕ) (w : Weight) → level_under ls (fix
 level-fixed ls l w = ap (higher l) (level-from-kept w.uses ls) ∙ higher-none l
 
 pub fault-fixed : (ls : List ℕ) (l : ℕ) (w : Weight) → fault_under ls (fixed l w) ≡ fault_under ls w
-fault-fixed ls l w = ap (λ b. has_fault w.faults || b) (breaks-kept w.uses ls)
+fault-fixed ls l w = ap (λ b. has_fault w.faults || b) (breaks-same kept (λ u l. refl) w.uses ls)
 
 pub level-lifted : (ls : List ℕ) (w : Weight) → level_under ls (lifted w) ≡ raised (level_under ls w)
 level-lifted ls w = ap (higher (raised w.least)) (level-from-raised w.uses ls) ∙ sym (raised-higher w.least (level_from w.uses ls))
 
 pub fault-lifted : (ls : List ℕ) (w : Weight) → fault_under ls (lifted w) ≡ fault_under ls w
-fault-lifted ls w = ap (λ b. has_fault w.faults || b) (breaks-raised w.uses ls)
+fault-lifted ls w = ap (λ b. has_fault w.faults || b) (breaks-same raised_use (λ u l. refl) w.uses ls)
 
 pub level-capped : (ls : List ℕ) (k : ℕ) (w : Weight) → level_under ls (capped k w) ≡ level_under ls w
-level-capped ls k w = ap (higher w.least) (level-from-capped k w.uses ls)
+level-capped ls k w = ap (higher w.least) (level-same (capped_use k) (λ u l. refl) w.uses ls)
 
 pub fault-capped : (ls : List ℕ) (k : ℕ) (w : Weight) → (fault_under ls (capped k w) || nat_lt k w.least) ≡ (fault_under ls w || nat_lt k (level_under ls w))
 fault-capped ls k w =

@@ -7,10 +7,13 @@ use Rattle.plain_syntax.specs.Plain.{Term}
 use Rattle.symbol_table.specs.Symbols.{symbol_at}
 use Rattle.expression_level.specs.Levels.{Levels, Applied, higher, told, level, constantly, bound, definition_level, declared_level}
 use Rattle.expression_level.specs.Levels as l
-use Rattle.expression_level.specs.Weights.{Known, depth_of, function_of, padded, definition, with_parameters, weigh}
+use Rattle.expression_level.specs.Primed.{primed_parameters}
+use Rattle.expression_level.proofs.Occurring.{primed-next, blank-closed}
+use Rattle.expression_level.specs.Weights.{Known, primed_first, depth_of, function_of, padded, definition, with_parameters, weigh}
 use Rattle.expression_level.specs.Weights.Known.{arguments, defined}
 use Rattle.expression_level.specs.Scope.{names_of, declared_env, body_weight, weight_of}
-use Rattle.expression_level.specs.Store.{levels_of, AllClosed}
+use Rattle.expression_level.specs.Store.{levels_of, flags_of, AllClosed}
+use Rattle.symbol_table.specs.declared.entry.Entry.{Entry}
 use Rattle.expression_level.proofs.Evaluation.{higher-none}
 use Rattle.expression_level.proofs.Agreement.{Knows}
 use Rattle.expression_level.proofs.Linear.{Agree, agree-inside, stands, knows-definition, no-level}
@@ -23,32 +26,36 @@ closed-at [] n c = refl
 closed-at (k ∷ ks) zero c = c.0
 closed-at (k ∷ ks) (suc n) c = closed-at ks n c.1
 
-agrees : (m : Place → Option ℕ) (ks : List Known) → AllClosed ks → Agree m [] 0 (levels_of ks) (declared_env ks) 0 at_first
-agrees m ks c = (refl, (λ n. ((let e = closed-at ks n c in omega (arith, e)), λ args. refl), (omega arith, λ args i. (sym (higher-none 0) i, false))))
+agrees : (m : Place → Option ℕ) (fs : Option ℕ → List Bool) (ks : List Known) → AllClosed ks → Agree m fs [] 0 (levels_of ks) (declared_env ks) 0 at_first
+agrees m fs ks c = (refl, (λ n. ((let e = closed-at ks n c in omega (arith, e)), λ args. refl), (omega arith, λ args i. (sym (higher-none 0) i, false))))
 
-known-definition : (m : Place → Option ℕ) (ks : List Known) → AllClosed ks → (ps : List Decl) (t : Term)
-    → Knows [] (λ args. told (level m (l.with_parameters m (levels_of ks) ps args) 0 t)) (definition 0 (length ps) (weigh m (0 + length ps) (with_parameters m 0 (declared_env ks) ps) at_first t))
-known-definition m ks c ps t =
-    knows-definition [] 0 (length ps) (λ args. level m (l.with_parameters m (levels_of ks) ps args) 0 t) (weigh m (0 + length ps) (with_parameters m 0 (declared_env ks) ps) at_first t) refl
-    (λ args. stands m ([] ++ padded (length ps) args) (0 + length ps) (l.with_parameters m (levels_of ks) ps args) (with_parameters m 0 (declared_env ks) ps) 0 at_first
-    (agree-inside m [] 0 (levels_of ks) (declared_env ks) 0 at_first ps args (agrees m ks c)) t)
+known-definition : (m : Place → Option ℕ) (fs : Option ℕ → List Bool) (ks : List Known) → AllClosed ks → (ps : List Decl) (t : Term)
+    → Knows [] (λ args. told (level m (l.with_parameters m (levels_of ks) ps args) 0 t)) (definition 0 (length ps) (weigh m fs (0 + length ps) (with_parameters m 0 (declared_env ks) ps) at_first t))
+known-definition m fs ks c ps t =
+    knows-definition [] 0 (length ps) (λ args. level m (l.with_parameters m (levels_of ks) ps args) 0 t) (weigh m fs (0 + length ps) (with_parameters m 0 (declared_env ks) ps) at_first t) refl
+    (λ args. stands m fs ([] ++ padded (length ps) args) (0 + length ps) (l.with_parameters m (levels_of ks) ps args) (with_parameters m 0 (declared_env ks) ps) 0 at_first
+    (agree-inside m fs [] 0 (levels_of ks) (declared_env ks) 0 at_first ps args (agrees m fs ks c)) t)
 
-pub definition-is : (ss : List (Place × ℕ)) (ks : List Known) → AllClosed ks → (ps : List Decl) (t : Term)
-    → function_of [] (definition 0 (length ps) (body_weight (names_of ss ks) 0 at_first ps t)) ≡ definition_level (symbol_at ss) (levels_of ks) ps t
-definition-is ss ks c ps t i args = sym ((known-definition (symbol_at ss) ks c ps t).1 args) i
+pub definition-is : (ss : List (Place × ℕ)) (es : List Entry) (ks : List Known) → AllClosed ks → (ps : List Decl) (t : Term)
+    → function_of [] (definition 0 (length ps) (body_weight (names_of ss es ks) 0 at_first ps t)) ≡ definition_level (symbol_at ss) (levels_of ks) ps t
+definition-is ss es ks c ps t i args = sym ((known-definition (symbol_at ss) (flags_of es) ks c ps t).1 args) i
 
-pub least-is : (ss : List (Place × ℕ)) (ks : List Known) → AllClosed ks → (ps : List Decl) (t : Term)
-    → (body_weight (names_of ss ks) 0 at_first ps t).least ≡ (definition_level (symbol_at ss) (levels_of ks) ps t []).0
-least-is ss ks c ps t =
-    let w = body_weight (names_of ss ks) 0 at_first ps t in
+pub least-is : (ss : List (Place × ℕ)) (es : List Entry) (ks : List Known) → AllClosed ks → (ps : List Decl) (t : Term)
+    → (body_weight (names_of ss es ks) 0 at_first ps t).least ≡ (definition_level (symbol_at ss) (levels_of ks) ps t []).0
+least-is ss es ks c ps t =
+    let w = body_weight (names_of ss es ks) 0 at_first ps t in
     sym (ap (higher w.least) (no-level (take (0 + length ps) w.uses)) ∙ higher-none w.least)
-    ∙ ap (λ (f : Applied). (f []).0) (definition-is ss ks c ps t)
+    ∙ ap (λ (f : Applied). (f []).0) (definition-is ss es ks c ps t)
 
-pub judged-is : (ss : List (Place × ℕ)) (ks : List Known) → AllClosed ks → (t : Term)
-    → ((weight_of (names_of ss ks) 0 at_first t).least, (weight_of (names_of ss ks) 0 at_first t).faults) ≡ level (symbol_at ss) (levels_of ks) 0 t
-judged-is ss ks c t =
-    let w = weight_of (names_of ss ks) 0 at_first t in
-    let s = stands (symbol_at ss) [] 0 (levels_of ks) (declared_env ks) 0 at_first (agrees (symbol_at ss) ks c) t in
+pub primed-is : (ss : List (Place × ℕ)) (es : List Entry) (ks : List Known) → AllClosed ks → (ps : List Decl) (t : Term)
+    → primed_first (body_weight (names_of ss es ks) 0 at_first ps t).uses (0 + length ps) ≡ primed_parameters (symbol_at ss) (flags_of es) ps t
+primed-is ss es ks c ps t = primed-next (symbol_at ss) (flags_of es) at_first t _ 0 ps (declared_env ks) refl (λ j n h. blank-closed (get_or ks n arguments) j (closed-at ks n c)) refl
+
+pub judged-is : (ss : List (Place × ℕ)) (es : List Entry) (ks : List Known) → AllClosed ks → (t : Term)
+    → ((weight_of (names_of ss es ks) 0 at_first t).least, (weight_of (names_of ss es ks) 0 at_first t).faults) ≡ level (symbol_at ss) (levels_of ks) 0 t
+judged-is ss es ks c t =
+    let w = weight_of (names_of ss es ks) 0 at_first t in
+    let s = stands (symbol_at ss) (flags_of es) [] 0 (levels_of ks) (declared_env ks) 0 at_first (agrees (symbol_at ss) (flags_of es) ks c) t in
     sym (λ i. ((s.0 ∙ ap (higher w.least) (no-level w.uses) ∙ higher-none w.least) i, s.1.1 tt i))
 
 -- ---- the list of what is kept

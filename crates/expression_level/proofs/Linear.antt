@@ -17,8 +17,8 @@ use Rattle.expression_level.specs.Levels.{Judged, Several, Applied, Levels, high
 use Rattle.expression_level.specs.Weights as w
 use Rattle.expression_level.specs.Weights.{Weight, Known, Env, counted, is_over, level_from, breaks, level_under, fault_under, depth_of, function_of, padded, unused, uses_of, parameter, definition, unlimited, result_so_far, asked_round, known}
 use Rattle.expression_level.specs.Weights.Known.{arguments, defined}
-use Rattle.expression_level.proofs.Evaluation.{higher-zero, higher-none, counted-none, over-nothing, level-fixed, fault-fixed}
-use Rattle.expression_level.proofs.Agreement.{Zeros, Stands, StandEach, Knows, stands-nothing, stands-beside, stands-fixed, stands-limited, stands-primed, stands-action, each-before, stands-at-name}
+use Rattle.expression_level.proofs.Evaluation.{higher-zero, higher-none, counted-none, over-nothing, level-fixed, fault-fixed, level-same}
+use Rattle.expression_level.proofs.Agreement.{Zeros, Stands, StandEach, Knows, stands-nothing, stands-beside, stands-fixed, stands-limited, stands-primed, stands-action, stands-all-primed, stand-marked, each-before, stands-at-name}
 
 -- ---- what one number has
 
@@ -114,11 +114,6 @@ knows-definition r d n f x e s = (
   ),
 )
 
-level-unlimited : (us : List Use) (r : List ℕ) → level_from (map unlimited us) r ≡ level_from us r
-level-unlimited [] r = refl
-level-unlimited (u ∷ us) [] = refl
-level-unlimited (u ∷ us) (l ∷ r) = ap (higher (counted u l)) (level-unlimited us r)
-
 breaks-unlimited : (us : List Use) (r : List ℕ) → breaks (map unlimited us) r ≡ false
 breaks-unlimited [] r = refl
 breaks-unlimited (u ∷ us) [] = refl
@@ -135,7 +130,7 @@ knows-result : (r : List ℕ) (d : ℕ) (j : Judged) (x : Weight) → length r �
 knows-result r d j x e s = (
   omega (arith, e),
   λ args i. (
-    (s.0 ∙ ap (higher x.least) (sym (level-unlimited (take d x.uses) (take d r ++ args) ∙ own-level d x.uses r args e))) i,
+    (s.0 ∙ ap (higher x.least) (sym (level-same unlimited (λ u l. refl) (take d x.uses) (take d r ++ args) ∙ own-level d x.uses r args e))) i,
     sym (breaks-unlimited (take d x.uses) (take d r ++ args)) i,
   ),
 )
@@ -187,7 +182,7 @@ length-padded (suc n) (l ∷ args) = ap suc (length-padded n args)
 length-with : (r : List ℕ) (d n : ℕ) (args : List ℕ) → length r ≡ d → length (r ++ padded n args) ≡ d + n
 length-with r d n args e = let a = length-append r (padded n args) in let b = length-padded n args in omega (arith, a, b, e)
 
-module _ (means : Place → Option ℕ) where
+module _ (means : Place → Option ℕ) (flags : Option ℕ → List Bool) where
   knows-one : (r : List ℕ) (d : ℕ) (ls : Levels) (env : Env) (p : Decl) (l : ℕ) → length r ≡ d → KnowAll r ls env
       → KnowAll (r ++ l ∷ []) (bind (means p.place) (constantly l) ls) (bind (means p.place) (parameter d) env)
   knows-one r d ls env p l e a =
@@ -222,86 +217,93 @@ module _ (means : Place → Option ℕ) where
 
   stands-prefix : (r : List ℕ) (o : List ℕ) (p : Place) (j : Judged) (x : Weight) → Stands r j x → Stands r (l.prefix_level o p j) (w.prefix_weight o p x)
   stands-prefix r o p j x s =
-      chosen r (is_word o (codes "UNCHANGED")) _ _ _ _ (stands-fixed r 2 (l.limited 1 p j) (w.limited 1 p x) (stands-limited r 1 p j x s))
+      chosen r (is_word o (codes "UNCHANGED")) _ _ _ _ (stands-fixed r 2 (l.limited 1 p j) (w.limited 1 p (w.all_primed x)) (stands-limited r 1 p j (w.all_primed x) (stands-all-primed r j x s)))
       (chosen r (is_word o (codes "ENABLED")) _ _ _ _ (stands-fixed r 1 (l.limited 2 p j) (w.limited 2 p x) (stands-limited r 2 p j x s))
       (chosen r (is_word o (codes "[]") || is_word o (codes "<>")) _ _ _ _ (stands-fixed r 3 j x s) s))
 
   -- one definition
   knows-next : (r : List ℕ) (d : ℕ) (ls : Levels) (env : Env) (a : ℕ) (k : Known) → Agree r d ls env a k → (ps : List Decl) (t : Term) (o : Option ℕ)
-      → ((args : List ℕ) → Stands (r ++ padded (length ps) args) (l.level means (l.with_parameters means ls ps args) a t) (w.weigh means (d + length ps) (w.with_parameters means d env ps) k t))
-      → KnowAll r (bind o (λ args. told (l.level means (l.with_parameters means ls ps args) a t)) ls) (bind o (definition d (length ps) (w.weigh means (d + length ps) (w.with_parameters means d env ps) k t)) env)
+      → ((args : List ℕ) → Stands (r ++ padded (length ps) args) (l.level means (l.with_parameters means ls ps args) a t) (w.weigh means flags (d + length ps) (w.with_parameters means d env ps) k t))
+      → KnowAll r (bind o (λ args. told (l.level means (l.with_parameters means ls ps args) a t)) ls) (bind o (definition d (length ps) (w.weigh means flags (d + length ps) (w.with_parameters means d env ps) k t)) env)
   knows-next r d ls env a k g ps t o s =
-      let x = w.weigh means (d + length ps) (w.with_parameters means d env ps) k t in
+      let x = w.weigh means flags (d + length ps) (w.with_parameters means d env ps) k t in
       knows-bound r ls env o _ (definition d (length ps) x) g.1.0
       (knows-definition r d (length ps) (λ args. l.level means (l.with_parameters means ls ps args) a t) x g.0 s)
 
   mutual
-    pub stands : (r : List ℕ) (d : ℕ) (ls : Levels) (env : Env) (a : ℕ) (k : Known) → Agree r d ls env a k → (t : Term) → Stands r (l.level means ls a t) (w.weigh means d env k t)
+    pub stands : (r : List ℕ) (d : ℕ) (ls : Levels) (env : Env) (a : ℕ) (k : Known) → Agree r d ls env a k → (t : Term) → Stands r (l.level means ls a t) (w.weigh means flags d env k t)
     stands r d ls env a k g (term (name n) ts p) =
-        stands-at-name r p (applied ls (means p)) (known env (means p)) (l.levels means ls a ts) (w.weigh_each means d env k ts) (knows-named r ls env (means p) g.1.0) (stands-each r d ls env a k g ts)
+        stands-at-name r p (applied ls (means p)) (known env (means p)) (l.levels means ls a ts) (w.marked (flags (means p)) (w.weigh_each means flags d env k ts)) (knows-named r ls env (means p) g.1.0)
+        (stand-marked r (flags (means p)) (l.levels means ls a ts) (w.weigh_each means flags d env k ts) (stands-each r d ls env a k g ts))
     stands r d ls env a k g (term (call n) ts p) =
-        stands-at-name r p (applied ls (means p)) (known env (means p)) (l.levels means ls a ts) (w.weigh_each means d env k ts) (knows-named r ls env (means p) g.1.0) (stands-each r d ls env a k g ts)
+        stands-at-name r p (applied ls (means p)) (known env (means p)) (l.levels means ls a ts) (w.marked (flags (means p)) (w.weigh_each means flags d env k ts)) (knows-named r ls env (means p) g.1.0)
+        (stand-marked r (flags (means p)) (l.levels means ls a ts) (w.weigh_each means flags d env k ts) (stands-each r d ls env a k g ts))
     stands r d ls env a k g (term box none p) = stands-fixed r 2 (0, []) w.nothing (stands-nothing r)
     stands r d ls env a k g (term box (part t ts) p) =
-        stands-action r p (l.level means ls a t) (l.overall (l.levels means ls a ts)) (w.weigh means d env k t) (w.total (w.weigh_each means d env k ts)) (stands r d ls env a k g t) (stands-all r d ls env a k g ts)
+        stands-action r p (l.level means ls a t) (l.overall (l.levels means ls a ts)) (w.weigh means flags d env k t) (w.all_primed (w.total (w.weigh_each means flags d env k ts))) (stands r d ls env a k g t)
+        (stands-all-primed r (l.overall (l.levels means ls a ts)) (w.total (w.weigh_each means flags d env k ts)) (stands-all r d ls env a k g ts))
     stands r d ls env a k g (term angle none p) = stands-fixed r 2 (0, []) w.nothing (stands-nothing r)
     stands r d ls env a k g (term angle (part t ts) p) =
-        stands-action r p (l.level means ls a t) (l.overall (l.levels means ls a ts)) (w.weigh means d env k t) (w.total (w.weigh_each means d env k ts)) (stands r d ls env a k g t) (stands-all r d ls env a k g ts)
+        stands-action r p (l.level means ls a t) (l.overall (l.levels means ls a ts)) (w.weigh means flags d env k t) (w.all_primed (w.total (w.weigh_each means flags d env k ts))) (stands r d ls env a k g t)
+        (stands-all-primed r (l.overall (l.levels means ls a ts)) (w.total (w.weigh_each means flags d env k ts)) (stands-all r d ls env a k g ts))
     stands r d ls env a k g (term at ts p) = stands-at-name r p (constantly a) k ([], []) [] g.1.1 (refl, (refl, λ z. refl))
     stands r d ls env a k g (term (except us) none p) = stands-nothing r
-    stands r d ls env a k g (term (except us) (part t ts) p) = stands-updates r d ls env a k g (l.level means ls a t) (w.weigh means d env k t) (stands r d ls env a k g t) us
+    stands r d ls env a k g (term (except us) (part t ts) p) = stands-updates r d ls env a k g (l.level means ls a t) (w.weigh means flags d env k t) (stands r d ls env a k g t) us
     stands r d ls env a k g (term (quantifier all gs) ts p) =
-        stands-beside r (l.sets means ls a gs) (l.overall (l.levels means ls a ts)) (w.sets means d env k gs) (w.total (w.weigh_each means d env k ts)) (stands-sets r d ls env a k g gs) (stands-all r d ls env a k g ts)
+        stands-beside r (l.sets means ls a gs) (l.overall (l.levels means ls a ts)) (w.sets means flags d env k gs) (w.total (w.weigh_each means flags d env k ts)) (stands-sets r d ls env a k g gs) (stands-all r d ls env a k g ts)
     stands r d ls env a k g (term (choice gs) ts p) =
-        stands-beside r (l.sets means ls a gs) (l.overall (l.levels means ls a ts)) (w.sets means d env k gs) (w.total (w.weigh_each means d env k ts)) (stands-sets r d ls env a k g gs) (stands-all r d ls env a k g ts)
+        stands-beside r (l.sets means ls a gs) (l.overall (l.levels means ls a ts)) (w.sets means flags d env k gs) (w.total (w.weigh_each means flags d env k ts)) (stands-sets r d ls env a k g gs) (stands-all r d ls env a k g ts)
     stands r d ls env a k g (term (local ds) ts p) =
         let ms = l.with_definitions means ls a ds in
-        let inner = w.with_definitions means d env k ds in
+        let inner = w.with_definitions means flags d env k ds in
         let h : Agree r d ms inner a k = (g.0, (knows-definitions r d ls env a k g ds, g.1.1)) in
-        stands-beside r (0, l.bodies means ls a ds) (l.overall (l.levels means ms a ts)) (w.bodies means d env k ds) (w.total (w.weigh_each means d inner k ts)) (stands-bodies r d ls env a k g ds) (stands-all r d ms inner a k h ts)
-    stands r d ls env a k g (term prime ts p) = stands-primed r p (l.overall (l.levels means ls a ts)) (w.total (w.weigh_each means d env k ts)) (stands-all r d ls env a k g ts)
-    stands r d ls env a k g (term (prefixed o) ts p) = stands-prefix r o p (l.overall (l.levels means ls a ts)) (w.total (w.weigh_each means d env k ts)) (stands-all r d ls env a k g ts)
+        stands-beside r (0, l.bodies means ls a ds) (l.overall (l.levels means ms a ts)) (w.bodies means flags d env k ds) (w.total (w.weigh_each means flags d inner k ts)) (stands-bodies r d ls env a k g ds) (stands-all r d ms inner a k h ts)
+    stands r d ls env a k g (term prime ts p) =
+        let j = l.overall (l.levels means ls a ts) in
+        let x = w.total (w.weigh_each means flags d env k ts) in
+        stands-primed r p j (w.all_primed x) (stands-all-primed r j x (stands-all r d ls env a k g ts))
+    stands r d ls env a k g (term (prefixed o) ts p) = stands-prefix r o p (l.overall (l.levels means ls a ts)) (w.total (w.weigh_each means flags d env k ts)) (stands-all r d ls env a k g ts)
     stands r d ls env a k g (term (infixed o) ts p) =
         let s = stands-all r d ls env a k g ts in
-        chosen r (is_word o (codes "~>")) _ _ _ _ (stands-fixed r 3 (l.overall (l.levels means ls a ts)) (w.total (w.weigh_each means d env k ts)) s) s
-    stands r d ls env a k g (term fair ts p) = stands-fixed r 3 (l.overall (l.levels means ls a ts)) (w.total (w.weigh_each means d env k ts)) (stands-all r d ls env a k g ts)
+        chosen r (is_word o (codes "~>")) _ _ _ _ (stands-fixed r 3 (l.overall (l.levels means ls a ts)) (w.total (w.weigh_each means flags d env k ts)) s) s
+    stands r d ls env a k g (term fair ts p) = stands-fixed r 3 (l.overall (l.levels means ls a ts)) (w.total (w.weigh_each means flags d env k ts)) (stands-all r d ls env a k g ts)
     stands r d ls env a k g (term s ts p) = stands-all r d ls env a k g ts
 
-    stands-each : (r : List ℕ) (d : ℕ) (ls : Levels) (env : Env) (a : ℕ) (k : Known) → Agree r d ls env a k → (ts : Terms) → StandEach r (l.levels means ls a ts) (w.weigh_each means d env k ts)
+    stands-each : (r : List ℕ) (d : ℕ) (ls : Levels) (env : Env) (a : ℕ) (k : Known) → Agree r d ls env a k → (ts : Terms) → StandEach r (l.levels means ls a ts) (w.weigh_each means flags d env k ts)
     stands-each r d ls env a k g none = (refl, (refl, λ z. refl))
     stands-each r d ls env a k g (part t ts) =
-        each-before r (l.level means ls a t) (l.levels means ls a ts) (w.weigh means d env k t) (w.weigh_each means d env k ts) (stands r d ls env a k g t) (stands-each r d ls env a k g ts)
+        each-before r (l.level means ls a t) (l.levels means ls a ts) (w.weigh means flags d env k t) (w.weigh_each means flags d env k ts) (stands r d ls env a k g t) (stands-each r d ls env a k g ts)
 
-    stands-all : (r : List ℕ) (d : ℕ) (ls : Levels) (env : Env) (a : ℕ) (k : Known) → Agree r d ls env a k → (ts : Terms) → Stands r (l.overall (l.levels means ls a ts)) (w.total (w.weigh_each means d env k ts))
+    stands-all : (r : List ℕ) (d : ℕ) (ls : Levels) (env : Env) (a : ℕ) (k : Known) → Agree r d ls env a k → (ts : Terms) → Stands r (l.overall (l.levels means ls a ts)) (w.total (w.weigh_each means flags d env k ts))
     stands-all r d ls env a k g none = stands-nothing r
     stands-all r d ls env a k g (part t ts) =
-        stands-beside r (l.level means ls a t) (l.overall (l.levels means ls a ts)) (w.weigh means d env k t) (w.total (w.weigh_each means d env k ts)) (stands r d ls env a k g t) (stands-all r d ls env a k g ts)
+        stands-beside r (l.level means ls a t) (l.overall (l.levels means ls a ts)) (w.weigh means flags d env k t) (w.total (w.weigh_each means flags d env k ts)) (stands r d ls env a k g t) (stands-all r d ls env a k g ts)
 
-    stands-sets : (r : List ℕ) (d : ℕ) (ls : Levels) (env : Env) (a : ℕ) (k : Known) → Agree r d ls env a k → (gs : Groups) → Stands r (l.sets means ls a gs) (w.sets means d env k gs)
+    stands-sets : (r : List ℕ) (d : ℕ) (ls : Levels) (env : Env) (a : ℕ) (k : Known) → Agree r d ls env a k → (gs : Groups) → Stands r (l.sets means ls a gs) (w.sets means flags d env k gs)
     stands-sets r d ls env a k g end_groups = stands-nothing r
     stands-sets r d ls env a k g (free ds gs) = stands-sets r d ls env a k g gs
     stands-sets r d ls env a k g (within ds t gs) =
-        stands-beside r (l.level means ls a t) (l.sets means ls a gs) (w.weigh means d env k t) (w.sets means d env k gs) (stands r d ls env a k g t) (stands-sets r d ls env a k g gs)
+        stands-beside r (l.level means ls a t) (l.sets means ls a gs) (w.weigh means flags d env k t) (w.sets means flags d env k gs) (stands r d ls env a k g t) (stands-sets r d ls env a k g gs)
 
     stands-updates : (r : List ℕ) (d : ℕ) (ls : Levels) (env : Env) (a : ℕ) (k : Known) → Agree r d ls env a k → (j : Judged) (x : Weight) → Stands r j x → (us : Updates)
-        → Stands r (l.updates means ls a j us) (w.updates means d env k x us)
+        → Stands r (l.updates means ls a j us) (w.updates means flags d env k x us)
     stands-updates r d ls env a k g j x s end_updates = s
     stands-updates r d ls env a k g j x s (update ks t us) =
         let i = l.beside j (l.keys means ls a ks) in
-        let y = w.join x (w.keys means d env k ks) in
-        let u = stands-beside r j (l.keys means ls a ks) x (w.keys means d env k ks) s (stands-keys r d ls env a k g ks) in
+        let y = w.join x (w.keys means flags d env k ks) in
+        let u = stands-beside r j (l.keys means ls a ks) x (w.keys means flags d env k ks) s (stands-keys r d ls env a k g ks) in
         let h : Agree r d ls env i.0 (result_so_far d y) = (g.0, (g.1.0, knows-result r d i y g.0 u)) in
-        stands-updates r d ls env a k g (l.beside i (l.level means ls i.0 t)) (w.join y (w.weigh means d env (result_so_far d y) t))
-        (stands-beside r i (l.level means ls i.0 t) y (w.weigh means d env (result_so_far d y) t) u (stands r d ls env i.0 (result_so_far d y) h t)) us
+        stands-updates r d ls env a k g (l.beside i (l.level means ls i.0 t)) (w.join y (w.weigh means flags d env (result_so_far d y) t))
+        (stands-beside r i (l.level means ls i.0 t) y (w.weigh means flags d env (result_so_far d y) t) u (stands r d ls env i.0 (result_so_far d y) h t)) us
 
-    stands-keys : (r : List ℕ) (d : ℕ) (ls : Levels) (env : Env) (a : ℕ) (k : Known) → Agree r d ls env a k → (ks : Keys) → Stands r (l.keys means ls a ks) (w.keys means d env k ks)
+    stands-keys : (r : List ℕ) (d : ℕ) (ls : Levels) (env : Env) (a : ℕ) (k : Known) → Agree r d ls env a k → (ks : Keys) → Stands r (l.keys means ls a ks) (w.keys means flags d env k ks)
     stands-keys r d ls env a k g end_keys = stands-nothing r
     stands-keys r d ls env a k g (key t ks) =
-        stands-beside r (l.level means ls a t) (l.keys means ls a ks) (w.weigh means d env k t) (w.keys means d env k ks) (stands r d ls env a k g t) (stands-keys r d ls env a k g ks)
+        stands-beside r (l.level means ls a t) (l.keys means ls a ks) (w.weigh means flags d env k t) (w.keys means flags d env k ks) (stands r d ls env a k g t) (stands-keys r d ls env a k g ks)
     stands-keys r d ls env a k g (field_key h ks) = stands-keys r d ls env a k g ks
 
     knows-definitions : (r : List ℕ) (d : ℕ) (ls : Levels) (env : Env) (a : ℕ) (k : Known) → Agree r d ls env a k → (ds : Defs)
-        → KnowAll r (l.with_definitions means ls a ds) (w.with_definitions means d env k ds)
+        → KnowAll r (l.with_definitions means ls a ds) (w.with_definitions means flags d env k ds)
     knows-definitions r d ls env a k g end_defs = g.1.0
     knows-definitions r d ls env a k g (def n ps t p ds) =
         let n = knows-next r d ls env a k g ps t (means p)
@@ -309,11 +311,11 @@ module _ (means : Place → Option ℕ) where
         knows-definitions r d _ _ a k (g.0, (n, g.1.1)) ds
 
     stands-bodies : (r : List ℕ) (d : ℕ) (ls : Levels) (env : Env) (a : ℕ) (k : Known) → Agree r d ls env a k → (ds : Defs)
-        → Stands r (0, l.bodies means ls a ds) (w.bodies means d env k ds)
+        → Stands r (0, l.bodies means ls a ds) (w.bodies means flags d env k ds)
     stands-bodies r d ls env a k g end_defs = stands-nothing r
     stands-bodies r d ls env a k g (def n ps t p ds) =
         let j = l.level means (l.with_parameters means ls ps []) a t in
-        let x = w.weigh means (d + length ps) (w.with_parameters means d env ps) k t in
+        let x = w.weigh means flags (d + length ps) (w.with_parameters means d env ps) k t in
         let f : Applied = λ args. told (l.level means (l.with_parameters means ls ps args) a t) in
         let ms = bind (means p) f ls in
         let inner = bind (means p) (definition d (length ps) x) env in
@@ -321,5 +323,5 @@ module _ (means : Place → Option ℕ) where
         (stands (r ++ padded (length ps) []) (d + length ps) (l.with_parameters means ls ps []) (w.with_parameters means d env ps) a k (agree-inside r d ls env a k ps [] g) t) in
         let n = knows-next r d ls env a k g ps t (means p)
         (λ args. stands (r ++ padded (length ps) args) (d + length ps) (l.with_parameters means ls ps args) (w.with_parameters means d env ps) a k (agree-inside r d ls env a k ps args g) t) in
-        stands-beside r (0, j.1) (0, l.bodies means ms a ds) (asked_round d x) (w.bodies means d inner k ds) first
+        stands-beside r (0, j.1) (0, l.bodies means ms a ds) (asked_round d x) (w.bodies means flags d inner k ds) first
         (stands-bodies r d ms inner a k (g.0, (n, g.1.1)) ds)

@@ -14,10 +14,10 @@ use Rattle.std.specs.Option.{is_some, IfSome}
 use Rattle.std.proofs.Math.Dec.{ltb}
 use Rattle.std.proofs.lemmas.Bool.Decides.{nat_tests}
 use Rattle.std.specs.Borrow.{Bor}
-use Rattle.expression_level.specs.Store.{found}
+use Rattle.expression_level.specs.Store.{found, flags_of}
 use Rattle.expression_level.proofs.Uses.{last-next}
 use Rattle.expression_level.specs.declared.names.Local.{Local}
-use Rattle.expression_level.specs.Scope.{Names, at, local, declared_env, with_locals, env_of, means_in, one_local, with_name, left, with_parameters, body_weight, with_definition, with_definitions}
+use Rattle.expression_level.specs.Scope.{Names, at, local, declared_env, with_locals, env_of, means_in, flags_in, one_local, with_name, left, with_parameters, body_weight, with_definition, with_definitions}
 
 abbrev or_else : Option Known → Known → Known
 or_else None k = k
@@ -98,7 +98,7 @@ one-is-bound env (Some n) k = refl
 env-with-name : (p : Place) (k : Known) (s : Names) → env_of (with_name p k s) ≡ bind (means_in s p) k (env_of s)
 env-with-name p k s = with-more-locals (declared_env s.declared) s.locals (one_local (means_in s p) k) ∙ one-is-bound (env_of s) (means_in s p) k
 
-pub same-with-parameters : (d : ℕ) (ps : List Decl) (s : Names) → ((with_parameters d ps s).symbols ≡ s.symbols) × ((with_parameters d ps s).declared ≡ s.declared)
+pub same-with-parameters : (d : ℕ) (ps : List Decl) (s : Names) → ((with_parameters d ps s).symbols ≡ s.symbols) × ((with_parameters d ps s).entries ≡ s.entries)
 same-with-parameters d [] s = (refl, refl)
 same-with-parameters d (p ∷ ps) s = same-with-parameters (suc d) ps (with_name p.place (parameter d) s)
 
@@ -112,7 +112,7 @@ abbrev Begins : Names → Names → Type 0
 Begins s t = left (length s.locals) t ≡ s
 
 begins-name : (s t : Names) (p : Place) (k : Known) → length s.locals ≤ length t.locals → Begins s t → Begins s (with_name p k t)
-begins-name s t p k h b = (λ i. record { symbols = t.symbols; declared = t.declared; locals = take-append-le (length s.locals) t.locals (one_local (means_in t p) k) h i }) ∙ b
+begins-name s t p k h b = (λ i. record t { locals = take-append-le (length s.locals) t.locals (one_local (means_in t p) k) h i }) ∙ b
 
 longer-name : (s : Names) (p : Place) (k : Known) → length s.locals ≤ length (with_name p k s).locals
 longer-name s p k = let e = length-append s.locals (one_local (means_in s p) k) in omega (arith, e)
@@ -123,15 +123,15 @@ begins-parameters d (p ∷ ps) s t h b =
     begins-parameters (suc d) ps s (with_name p.place (parameter d) t) (let a = longer-name t p.place (parameter d) in omega (arith, h, a)) (begins-name s t p.place (parameter d) h b)
 
 begins-itself : (s : Names) → Begins s s
-begins-itself s i = record { symbols = s.symbols; declared = s.declared; locals = take_all (length s.locals) s.locals (omega arith) i }
+begins-itself s i = record s { locals = take_all (length s.locals) s.locals (omega arith) i }
 
 pub parameters-left : (d : ℕ) (ps : List Decl) (s : Names) → left (length s.locals) (with_parameters d ps s) ≡ s
 parameters-left d ps s = begins-parameters d ps s s (omega arith) (begins-itself s)
 
 pub weigh-with-parameters : (d : ℕ) (ps : List Decl) (s : Names) (k : Known) (t : Term)
-    → w.weigh (means_in (with_parameters d ps s)) (d + length ps) (env_of (with_parameters d ps s)) k t ≡ body_weight s d k ps t
+    → w.weigh (means_in (with_parameters d ps s)) (flags_in (with_parameters d ps s)) (d + length ps) (env_of (with_parameters d ps s)) k t ≡ body_weight s d k ps t
 weigh-with-parameters d ps s k t i =
-    w.weigh (ap (λ (y : List (Place × ℕ)). symbol_at y) ((same-with-parameters d ps s).0) i) (d + length ps) (env-with-parameters d ps s i) k t
+    w.weigh (symbol_at ((same-with-parameters d ps s).0 i)) (flags_of ((same-with-parameters d ps s).1 i)) (d + length ps) (env-with-parameters d ps s i) k t
 
 begins-definitions : (d : ℕ) (k : Known) (ds : Defs) (s t : Names) → length s.locals ≤ length t.locals → Begins s t → Begins s (with_definitions d k ds t)
 begins-definitions d k end_defs s t h b = b
@@ -142,20 +142,20 @@ begins-definitions d k (def n ps e p ds) s t h b =
 pub definitions-left : (d : ℕ) (k : Known) (ds : Defs) (s : Names) → left (length s.locals) (with_definitions d k ds s) ≡ s
 definitions-left d k ds s = begins-definitions d k ds s s (omega arith) (begins-itself s)
 
-pub same-with-definitions : (d : ℕ) (k : Known) (ds : Defs) (s : Names) → (with_definitions d k ds s).symbols ≡ s.symbols
-same-with-definitions d k end_defs s = refl
+pub same-with-definitions : (d : ℕ) (k : Known) (ds : Defs) (s : Names) → ((with_definitions d k ds s).symbols ≡ s.symbols) × ((with_definitions d k ds s).entries ≡ s.entries)
+same-with-definitions d k end_defs s = (refl, refl)
 same-with-definitions d k (def n ps e p ds) s = same-with-definitions d k ds (with_definition d k ps e p s)
 
-pub env-with-definitions : (d : ℕ) (k : Known) (ds : Defs) (s : Names) → env_of (with_definitions d k ds s) ≡ w.with_definitions (means_in s) d (env_of s) k ds
+pub env-with-definitions : (d : ℕ) (k : Known) (ds : Defs) (s : Names) → env_of (with_definitions d k ds s) ≡ w.with_definitions (means_in s) (flags_in s) d (env_of s) k ds
 env-with-definitions d k end_defs s = refl
 env-with-definitions d k (def n ps e p ds) s =
     env-with-definitions d k ds (with_definition d k ps e p s)
-    ∙ ap (λ env. w.with_definitions (means_in s) d env k ds) (env-with-name p (definition d (length ps) (body_weight s d k ps e)) s)
+    ∙ ap (λ env. w.with_definitions (means_in s) (flags_in s) d env k ds) (env-with-name p (definition d (length ps) (body_weight s d k ps e)) s)
 
 -- ---- one more definition
 
 pub bodies-next : (d : ℕ) (k : Known) (n : List ℕ) (ps : List Decl) (e : Term) (p : Place) (ds : Defs) (s : Names)
-    → w.bodies (means_in s) d (env_of s) k (def n ps e p ds)
-    ≡ w.join (w.asked_round d (body_weight s d k ps e)) (w.bodies (means_in s) d (env_of (with_definition d k ps e p s)) k ds)
+    → w.bodies (means_in s) (flags_in s) d (env_of s) k (def n ps e p ds)
+    ≡ w.join (w.asked_round d (body_weight s d k ps e)) (w.bodies (means_in s) (flags_in s) d (env_of (with_definition d k ps e p s)) k ds)
 bodies-next d k n ps e p ds s =
-    ap (λ env. w.join (w.asked_round d (body_weight s d k ps e)) (w.bodies (means_in s) d env k ds)) (sym (env-with-name p (definition d (length ps) (body_weight s d k ps e)) s))
+    ap (λ env. w.join (w.asked_round d (body_weight s d k ps e)) (w.bodies (means_in s) (flags_in s) d env k ds)) (sym (env-with-name p (definition d (length ps) (body_weight s d k ps e)) s))

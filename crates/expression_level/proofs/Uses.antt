@@ -76,7 +76,13 @@ stricter-assoc (Some k) (Some m) (Some n) = ap Some (lower-assoc k m n)
     lower-assoc k m n = grind arith
 
 both-assoc : (u v w : Use) → both (both u v) w ≡ both u (both v w)
-both-assoc u v w i = record { plain = or-assoc u.plain v.plain w.plain i; raised = or-assoc u.raised v.raised w.raised i; limit = stricter-assoc u.limit v.limit w.limit i }
+both-assoc u v w i = record {
+  plain = or-assoc u.plain v.plain w.plain i;
+  raised = or-assoc u.raised v.raised w.raised i;
+  limit = stricter-assoc u.limit v.limit w.limit i;
+  held = or-assoc u.held v.held w.held i;
+  primed = or-assoc u.primed v.primed w.primed i;
+}
 
 uses-assoc : (us vs ws : List Use) → all_uses (all_uses us vs) ws ≡ all_uses us (all_uses vs ws)
 uses-assoc [] vs ws = refl

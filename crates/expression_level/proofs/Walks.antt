@@ -26,10 +26,11 @@ use Rattle.plain_syntax.specs.Syntax.{Held, shape_of, key_of, def_of, group_of, 
 use Rattle.plain_syntax.specs.Order.{order, orders, joined_by, joins}
 use Rattle.plain_syntax.proofs.Forms.{held, by-form, parts_in, is-name, is-call, is-box, is-angle, is-at, is-except, is-quantifier, is-choice, is-local, is-path, is-key, is-field-key, is-group, is-def}
 use Rattle.expression_level.specs.Weights.{Weight, Known, weigh_each, join, total, nothing, at_name, form_weight, result_so_far, asked_round}
-use Rattle.expression_level.specs.Scope.{Names, at, weight_of, weights_of, turned, count, ruled, by_form, acted, updates_on, excepted, sets_of, keys_on, bodies_of, domain_weight, with_definition, with_definitions, body_weight}
+use Rattle.expression_level.specs.Scope.{Names, applied, weight_of, weights_of, turned, count, ruled, by_form, acted, updates_on, excepted, sets_of, keys_on, bodies_of, domain_weight, with_definition, with_definitions, body_weight}
 use Rattle.expression_level.proofs.Uses.{join-assoc, nothing-joined, joined-nothing}
 use Rattle.expression_level.proofs.Locals.{bodies-next, same-with-definitions, env-with-definitions}
 use Rattle.symbol_table.specs.Symbols.{symbol_at}
+use Rattle.expression_level.specs.Store.{flags_of}
 
 -- ---- operators, one after another
 
@@ -149,10 +150,10 @@ module _ (c : Names) (d : ℕ) (k : Known) where
   parts-weights : Node → List Weight
   parts-weights n = weights_of c d k (parts_in n)
 
-  pub weighs-name : (n : Node) (w : Text) → (out-Node n).form ≡ form.Name w → weight_of c d k (term_of n) ≡ at_name (out-Node n).place (at c (out-Node n).place) (weights_of c d k (parts_in n))
+  pub weighs-name : (n : Node) (w : Text) → (out-Node n).form ≡ form.Name w → weight_of c d k (term_of n) ≡ applied c d k (out-Node n).place (parts_in n)
   weighs-name n w e = ap (weight_of c d k) (is-name n w e)
 
-  pub weighs-call : (n : Node) (w : Text) → (out-Node n).form ≡ form.Call w → weight_of c d k (term_of n) ≡ at_name (out-Node n).place (at c (out-Node n).place) (weights_of c d k (parts_in n))
+  pub weighs-call : (n : Node) (w : Text) → (out-Node n).form ≡ form.Call w → weight_of c d k (term_of n) ≡ applied c d k (out-Node n).place (parts_in n)
   weighs-call n w e = ap (weight_of c d k) (is-call n w e)
 
   acts-box : (ts : Terms) (p : Place) → weight_of c d k (term s.box ts p) ≡ acted c d k p ts
@@ -290,7 +291,7 @@ module _ (c : Names) (d : ℕ) (k : Known) where
   weighs-let n ds e =
       ap (weight_of c d k) (is-local n ds e)
       ∙ ap (λ ws. join (bodies_of c d k (each_def ds)) (total ws))
-      (sym (λ i. weigh_each (symbol_at (same-with-definitions d k (each_def ds) c i)) d (env-with-definitions d k (each_def ds) c i) k (parts_in n)))
+      (sym (λ i. weigh_each (symbol_at ((same-with-definitions d k (each_def ds) c).0 i)) (flags_of ((same-with-definitions d k (each_def ds) c).1 i)) d (env-with-definitions d k (each_def ds) c i) k (parts_in n)))
 
   -- ---- all other forms
 

@@ -12,7 +12,7 @@ use std::alloc::Global;
 use tla_ast::{Form, Place};
 
 /// The prefix operator that primes what it is applied to.
-pub const UNCHANGED: &[u8] = b"UNCHANGED";
+const UNCHANGED: &[u8] = b"UNCHANGED";
 
 /// The other prefix operators that change a level.
 const ENABLED: &[u8] = b"ENABLED";
@@ -29,6 +29,7 @@ fn prefix(operator: &[u8], place: Place, weight: &mut Weight) -> Result<(), Memo
     ensures { OnOk result (weight.new ≡ weights.prefix_weight operator.now place weight.old) }
 {
     if operator == UNCHANGED {
+        weight.prime();
         weight.limit(1, place)?;
         weight.fix(2);
     } else if operator == ENABLED {
@@ -60,6 +61,7 @@ pub fn apply(form: &Form, place: Place, weight: &mut Weight) -> Result<(), Memor
             Ok(())
         }
         Form::Prime => {
+            weight.prime();
             weight.limit(1, place)?;
             weight.lift();
             Ok(())
@@ -74,10 +76,11 @@ pub fn apply(form: &Form, place: Place, weight: &mut Weight) -> Result<(), Memor
 
 /// An action and its subscript.
 pub fn act(mut action: Weight, mut subscript: Weight, place: Place) -> Result<Weight, Memory>
-    ensures { IfOk result (λ weight. weight ≡ weights.action_weight place action subscript) }
+    ensures { IfOk result (λ weight. weight ≡ weights.subscripted place action subscript) }
 {
     let is_fault = 2 < action.least || 1 < subscript.least;
     action.cap(2);
+    subscript.prime();
     subscript.cap(1);
     action.join(subscript)?;
     action.note(is_fault, place)?;

@@ -1,6 +1,6 @@
 //! What is known of a name, and what an application of it gives.
 
-ghost use Rattle.std.specs.Prelude.{◌≡◌, false, [], take, drop, IfOk};
+ghost use Rattle.std.specs.Prelude.{◌≡◌, false, [], map, take, drop, IfOk};
 ghost use Rattle.expression_level.specs.Levels.{has_fault};
 ghost use Rattle.expression_level.specs.Weights as spec;
 ghost use Rattle.expression_level.specs.Weights.{Known as seen};
@@ -87,16 +87,13 @@ impl Known {
         ensures { IfOk result (λ known. known ≡ spec.parameter position) }
     {
         let mut uses = Vec::new(alloc);
-        let unused = Use {
-            plain: false,
-            raised: false,
-            limit: None,
-        };
-        uses.resize(position, unused)?;
+        uses.resize(position, Use::unused())?;
         uses.push(Use {
             plain: true,
             raised: false,
             limit: None,
+            held: true,
+            primed: false,
         })?;
         let depth = position.checked_add(1).ok_or(Memory)?;
         Ok(Known {
@@ -205,10 +202,11 @@ impl Definition {
     /// What it gives without its arguments.
     fn outer(&self, alloc: Global) -> Result<Weight, Memory>
         ensures { IfOk result (λ weight. weight
-            ≡ record { least = self.now.least; uses = take self.now.depth self.now.uses.items; faults = [] }) }
+            ≡ record { least = self.now.least; uses = map spec.named (take self.now.depth self.now.uses.items); faults = [] }) }
     {
         let mut uses = Vec::new(alloc);
         uses.extend_from_slice(front(&self.uses, self.depth))?;
+        change_all(&mut uses, Change::Named);
         Ok(Weight {
             least: self.least,
             uses,
@@ -234,15 +232,28 @@ impl Definition {
     }
 }
 
-/// A name at a place, with arguments that weigh so; one that is not known has the level of its arguments.
+/// Primes the arguments that these flags name.
+fn mark(args: &mut Vec<Weight>, flags: &[bool])
+    ensures { args.new.items ≡ spec.marked flags.now args.old.items }
+{
+    for index in 0..flags.len().min(args.len()) {
+        args[index].prime_if(flags[index]);
+    }
+}
+
+/// A name at a place, with arguments that weigh so, of which it primes those that the flags name; one that is not known has the
+/// level of its arguments.
 pub fn at_name(
     alloc: Global,
     known: Option<&Known>,
-    args: Vec<Weight>,
+    flags: &[bool],
+    mut args: Vec<Weight>,
     place: Place,
 ) -> Result<Weight, Memory>
-    ensures { IfOk result (λ weight. weight ≡ spec.at_name place (found known.entry) args.items) }
+    ensures { IfOk result (λ weight. weight
+        ≡ spec.at_name place (found known.entry) (spec.marked flags.now args.items)) }
 {
+    mark(&mut args, flags);
     match known {
         None => total(alloc, args),
         Some(known) => match &known.definition {

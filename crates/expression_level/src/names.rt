@@ -8,7 +8,7 @@ use crate::known::Known;
 use core_expr::Memory;
 use std::alloc::Global;
 use std::marker::Model;
-use symbol_table::Symbols;
+use symbol_table::{Entry, Symbols};
 use tla_ast::{Decl, Place};
 
 /// A parameter or a definition of a LET, by number.
@@ -18,11 +18,12 @@ pub struct Local {
     pub known: Known,
 }
 
-/// What the names of a module mean, what is declared, and the parameters and definitions round a place of an expression, which
+/// What the names of a module mean, the entries and levels of what is declared, and the parameters and definitions round a place of an expression, which
 /// come before what is declared; the newest of a number counts.
 #[derive(Drop)]
 pub struct Names<'a> {
     symbols: &'a Symbols,
+    entries: &'a [Entry],
     declared: &'a [Known],
     locals: Vec<Local>,
 }
@@ -32,16 +33,22 @@ impl<'a> Model for Names<'a> {
 
     ghost Value = { Seen };
 
-    ghost view = { λ s. record { symbols = s.symbols.now; declared = s.declared.now; locals = s.locals.items } };
+    ghost view = { λ s. record { symbols = s.symbols.now; entries = s.entries.now; declared = s.declared.now; locals = s.locals.items } };
 }
 
 impl<'a> Names<'a> {
     /// What is declared, and nothing else.
-    pub fn new(alloc: Global, symbols: &'a Symbols, declared: &'a [Known]) -> Names<'a>
-        ensures { result ≡ spec.names_of symbols.now declared.now }
+    pub fn new(
+        alloc: Global,
+        symbols: &'a Symbols,
+        entries: &'a [Entry],
+        declared: &'a [Known],
+    ) -> Names<'a>
+        ensures { result ≡ spec.names_of symbols.now entries.now declared.now }
     {
         Names {
             symbols,
+            entries,
             declared,
             locals: Vec::new(alloc),
         }
@@ -70,6 +77,19 @@ impl<'a> Names<'a> {
         match self.local(number) {
             Some(known) => Some(known),
             None => self.declared.get(number as usize),
+        }
+    }
+
+    /// Which parameters the definition primes that the name at a place stands for.
+    pub fn flags(&self, place: Place) -> &[bool]
+        ensures { result.now ≡ spec.flags_in self.now (spec.means_in self.now place) }
+    {
+        match self.symbols.at(place) {
+            None => &[],
+            Some(number) => match self.entries.get(number as usize) {
+                None => &[],
+                Some(entry) => entry.primed.as_slice(),
+            },
         }
     }
 

@@ -84,7 +84,7 @@ fn leaf(
         Form::AngleAct => action(alloc, names, depth, at, node),
         Form::At => {
             let none = Vec::new(alloc);
-            at_name(alloc, Some(at), none, node.place)
+            at_name(alloc, Some(at), &[], none, node.place)
         }
         Form::Except(_) => except(alloc, names, depth, at, node),
         Form::Quant { all: _, groups } => {
@@ -143,11 +143,17 @@ fn name(
 ) -> Result<Weight, Memory>
     ensures same { OnOk result (names.new ≡ names.old) }
     ensures weight { IfOk result (λ weight. weight
-        ≡ weights.at_name (out-Node node.now).place (spec.at names.old (out-Node node.now).place)
-        (spec.weights_of names.old depth at.now (terms_of (map term_of (out-Node node.now).parts)))) }
+        ≡ spec.applied names.old depth at.now (out-Node node.now).place
+        (terms_of (map term_of (out-Node node.now).parts))) }
 {
     let args = each(alloc, names, depth, at, node.parts.as_slice())?;
-    at_name(alloc, names.at(node.place), args, node.place)
+    at_name(
+        alloc,
+        names.at(node.place),
+        names.flags(node.place),
+        args,
+        node.place,
+    )
 }
 
 /// An action with its subscript.

@@ -5,7 +5,7 @@ use Rattle.tla_ast.specs.declared.tree.Group.{out-Group}
 use Rattle.tla_ast.specs.declared.tree.Path.{out-Path}
 use Rattle.plain_syntax.specs.Syntax.{term_of, terms_of, each_group, each_key, each_def}
 use Rattle.expression_level.specs.Levels.{has_fault}
-use Rattle.expression_level.specs.Weights.{at_name, join, total, action_weight, asked_round}
+use Rattle.expression_level.specs.Weights.{at_name, join, total, subscripted, asked_round}
 use Rattle.expression_level.specs.Weights.Known.{defined}
 use Rattle.expression_level.specs.Scope.{turned, weight_of, weights_of, sets_of, keys_on, bodies_of, updates_on, domain_weight, by_form, acted, left, with_name, with_parameters, with_definitions}
 use Rattle.expression_level.proofs.Uses.{joined-nothing}
@@ -153,7 +153,7 @@ action-returns t c =
       same = in-any-case c.act.result (c.in_ok-others.ensures.same ∙ c.in_ok-taken.ensures.same);
       weight = because _ _ c.act.result
           (ap (λ l. acted n d k p (terms_of (map term_of l))) (sym c.as_slice.ensures ∙ c.in-Some.ensures.cases.0)
-          ∙ sym (λ i. action_weight p (c.in_ok-taken.ensures.weight i) (s i)))
+          ∙ sym (λ i. subscripted p (c.in_ok-taken.ensures.weight i) (s i)))
           c.act.ensures;
     }
 
