@@ -7,3 +7,4 @@ mod Locals
 mod Walks
 mod Kept
 mod Occurring
+mod Scratch
