@@ -14,9 +14,9 @@ use Rattle.expression_level.specs.Weights.Known.{arguments, defined}
 use Rattle.expression_level.specs.Scope.{names_of, declared_env, body_weight, weight_of}
 use Rattle.expression_level.specs.Store.{levels_of, flags_of, AllClosed}
 use Rattle.symbol_table.specs.declared.entry.Entry.{Entry}
-use Rattle.expression_level.proofs.Evaluation.{higher-none}
+use Rattle.expression_level.proofs.Evaluation.{higher-none, from-none}
 use Rattle.expression_level.proofs.Agreement.{Knows}
-use Rattle.expression_level.proofs.Linear.{Agree, agree-inside, stands, knows-definition, no-level}
+use Rattle.expression_level.proofs.Linear.{Agree, agree-inside, stands, knows-definition}
 
 abbrev pub at_first : Known
 at_first = defined 0 0 [] false
@@ -27,7 +27,7 @@ closed-at (k ∷ ks) zero c = c.0
 closed-at (k ∷ ks) (suc n) c = closed-at ks n c.1
 
 agrees : (m : Place → Option ℕ) (fs : Option ℕ → List Bool) (ks : List Known) → AllClosed ks → Agree m fs [] 0 (levels_of ks) (declared_env ks) 0 at_first
-agrees m fs ks c = (refl, (λ n. ((let e = closed-at ks n c in omega (arith, e)), λ args. refl), (omega arith, λ args i. (sym (higher-none 0) i, false))))
+agrees m fs ks c = (refl, (λ n. ((let e = closed-at ks n c in omega (arith, e)), λ args. refl), (omega arith, λ args. refl)))
 
 known-definition : (m : Place → Option ℕ) (fs : Option ℕ → List Bool) (ks : List Known) → AllClosed ks → (ps : List Decl) (t : Term)
     → Knows [] (λ args. told (level m (l.with_parameters m (levels_of ks) ps args) 0 t)) (definition 0 (length ps) (weigh m fs (0 + length ps) (with_parameters m 0 (declared_env ks) ps) at_first t))
@@ -44,7 +44,7 @@ pub least-is : (ss : List (Place × ℕ)) (es : List Entry) (ks : List Known) �
     → (body_weight (names_of ss es ks) 0 at_first ps t).least ≡ (definition_level (symbol_at ss) (levels_of ks) ps t []).0
 least-is ss es ks c ps t =
     let w = body_weight (names_of ss es ks) 0 at_first ps t in
-    sym (ap (higher w.least) (no-level (take (0 + length ps) w.uses)) ∙ higher-none w.least)
+    sym (ap (λ x. higher w.least x.0) (from-none (take (0 + length ps) w.uses)) ∙ higher-none w.least)
     ∙ ap (λ (f : Applied). (f []).0) (definition-is ss es ks c ps t)
 
 pub primed-is : (ss : List (Place × ℕ)) (es : List Entry) (ks : List Known) → AllClosed ks → (ps : List Decl) (t : Term)
@@ -56,7 +56,7 @@ pub judged-is : (ss : List (Place × ℕ)) (es : List Entry) (ks : List Known) �
 judged-is ss es ks c t =
     let w = weight_of (names_of ss es ks) 0 at_first t in
     let s = stands (symbol_at ss) (flags_of es) [] 0 (levels_of ks) (declared_env ks) 0 at_first (agrees (symbol_at ss) (flags_of es) ks c) t in
-    sym (λ i. ((s.0 ∙ ap (higher w.least) (no-level w.uses) ∙ higher-none w.least) i, s.1.1 tt i))
+    sym (λ i. ((ap (λ x. x.0) s.0 ∙ ap (λ x. higher w.least x.0) (from-none w.uses) ∙ higher-none w.least) i, s.1 tt i))
 
 -- ---- the list of what is kept
 

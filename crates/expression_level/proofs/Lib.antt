@@ -7,4 +7,3 @@ mod Locals
 mod Walks
 mod Kept
 mod Occurring
-mod Scratch

@@ -151,42 +151,38 @@ module _ (i : ℕ) where
     mutual
       pub sees : (d : ℕ) (hs : Holders) (env : Env) (b : Bool) (k : Known) → i < d → HoldAll hs env → Holds k b → (t : Term) → Sees (weigh means flags d env k t) (occurs means flags hs b t)
       sees d hs env b k h a g (term (name n) ts p) =
-          sees-name p (known env (means p)) (is_holder hs (means p)) (marked (flags (means p)) (w.weigh_each means flags d env k ts)) _ (holds-named hs env (means p) a) (sees-arguments d hs env b k h a g (flags (means p)) ts)
+          sees-name p (known env (means p)) (is_holder hs (means p)) (marked (flags (means p)) (w.weigh_each means flags d env k ts)) _ (holds-named hs env (means p) a) (sees-each d hs env b k h a g (flags (means p)) ts)
       sees d hs env b k h a g (term (call n) ts p) =
-          sees-name p (known env (means p)) (is_holder hs (means p)) (marked (flags (means p)) (w.weigh_each means flags d env k ts)) _ (holds-named hs env (means p) a) (sees-arguments d hs env b k h a g (flags (means p)) ts)
+          sees-name p (known env (means p)) (is_holder hs (means p)) (marked (flags (means p)) (w.weigh_each means flags d env k ts)) _ (holds-named hs env (means p) a) (sees-each d hs env b k h a g (flags (means p)) ts)
       sees d hs env b k h a g (term prime ts p) =
           let x = total (w.weigh_each means flags d env k ts) in
-          sees-lifted (limited 1 p (all_primed x)) _ (sees-limited 1 p (all_primed x) _ (sees-primed true x _ (sees-each d hs env b k h a g ts)))
-      sees d hs env b k h a g (term (prefixed o) ts p) = sees-prefix p (total (w.weigh_each means flags d env k ts)) _ (is_word o (codes "UNCHANGED")) _ _ (sees-each d hs env b k h a g ts)
-      sees d hs env b k h a g (term (infixed o) ts p) = sees-infix (total (w.weigh_each means flags d env k ts)) _ (is_word o (codes "~>")) (sees-each d hs env b k h a g ts)
-      sees d hs env b k h a g (term fair ts p) = sees-fixed 3 (total (w.weigh_each means flags d env k ts)) _ (sees-each d hs env b k h a g ts)
+          sees-lifted (limited 1 p (all_primed x)) _ (sees-limited 1 p (all_primed x) _ (sees-primed true x _ (sees-each d hs env b k h a g [] ts)))
+      sees d hs env b k h a g (term (prefixed o) ts p) = sees-prefix p (total (w.weigh_each means flags d env k ts)) _ (is_word o (codes "UNCHANGED")) _ _ (sees-each d hs env b k h a g [] ts)
+      sees d hs env b k h a g (term (infixed o) ts p) = sees-infix (total (w.weigh_each means flags d env k ts)) _ (is_word o (codes "~>")) (sees-each d hs env b k h a g [] ts)
+      sees d hs env b k h a g (term fair ts p) = sees-fixed 3 (total (w.weigh_each means flags d env k ts)) _ (sees-each d hs env b k h a g [] ts)
       sees d hs env b k h a g (term box none p) = refl
-      sees d hs env b k h a g (term box (part t ts) p) = sees-action p (weigh means flags d env k t) (total (w.weigh_each means flags d env k ts)) _ _ (sees d hs env b k h a g t) (sees-each d hs env b k h a g ts)
+      sees d hs env b k h a g (term box (part t ts) p) = sees-action p (weigh means flags d env k t) (total (w.weigh_each means flags d env k ts)) _ _ (sees d hs env b k h a g t) (sees-each d hs env b k h a g [] ts)
       sees d hs env b k h a g (term angle none p) = refl
-      sees d hs env b k h a g (term angle (part t ts) p) = sees-action p (weigh means flags d env k t) (total (w.weigh_each means flags d env k ts)) _ _ (sees d hs env b k h a g t) (sees-each d hs env b k h a g ts)
+      sees d hs env b k h a g (term angle (part t ts) p) = sees-action p (weigh means flags d env k t) (total (w.weigh_each means flags d env k ts)) _ _ (sees d hs env b k h a g t) (sees-each d hs env b k h a g [] ts)
       sees d hs env b k h a g (term at ts p) = sees-name p k b [] nowhere g refl
       sees d hs env b k h a g (term (except us) none p) = refl
       sees d hs env b k h a g (term (except us) (part t ts) p) = sees-updates d hs env b k h a g (weigh means flags d env k t) _ (sees d hs env b k h a g t) us
-      sees d hs env b k h a g (term (quantifier all gs) ts p) = sees-join (w.sets means flags d env k gs) (total (w.weigh_each means flags d env k ts)) _ _ (sees-sets d hs env b k h a g gs) (sees-each d hs env b k h a g ts)
-      sees d hs env b k h a g (term (choice gs) ts p) = sees-join (w.sets means flags d env k gs) (total (w.weigh_each means flags d env k ts)) _ _ (sees-sets d hs env b k h a g gs) (sees-each d hs env b k h a g ts)
+      sees d hs env b k h a g (term (quantifier all gs) ts p) = sees-join (w.sets means flags d env k gs) (total (w.weigh_each means flags d env k ts)) _ _ (sees-sets d hs env b k h a g gs) (sees-each d hs env b k h a g [] ts)
+      sees d hs env b k h a g (term (choice gs) ts p) = sees-join (w.sets means flags d env k gs) (total (w.weigh_each means flags d env k ts)) _ _ (sees-sets d hs env b k h a g gs) (sees-each d hs env b k h a g [] ts)
       sees d hs env b k h a g (term (local ds) ts p) =
           sees-join (w.bodies means flags d env k ds) (total (w.weigh_each means flags d (w.with_definitions means flags d env k ds) k ts)) _ _ (sees-bodies d hs env b k h a g ds)
-          (sees-each d (said.with_definitions means flags hs b ds) (w.with_definitions means flags d env k ds) b k h (hold-definitions d hs env b k h a g ds) g ts)
-      sees d hs env b k h a g (term s ts p) = sees-each d hs env b k h a g ts
+          (sees-each d (said.with_definitions means flags hs b ds) (w.with_definitions means flags d env k ds) b k h (hold-definitions d hs env b k h a g ds) g [] ts)
+      sees d hs env b k h a g (term s ts p) = sees-each d hs env b k h a g [] ts
 
-      sees-each : (d : ℕ) (hs : Holders) (env : Env) (b : Bool) (k : Known) → i < d → HoldAll hs env → Holds k b → (ts : Terms) → Sees (total (w.weigh_each means flags d env k ts)) (said.in_each means flags hs b ts)
-      sees-each d hs env b k h a g none = refl
-      sees-each d hs env b k h a g (part t ts) = sees-join (weigh means flags d env k t) (total (w.weigh_each means flags d env k ts)) _ _ (sees d hs env b k h a g t) (sees-each d hs env b k h a g ts)
-
-      sees-arguments : (d : ℕ) (hs : Holders) (env : Env) (b : Bool) (k : Known) → i < d → HoldAll hs env → Holds k b → (fs : List Bool) (ts : Terms)
-          → Sees (total (marked fs (w.weigh_each means flags d env k ts))) (said.arguments means flags hs b fs ts)
-      sees-arguments d hs env b k h a g [] none = refl
-      sees-arguments d hs env b k h a g (f ∷ fs) none = refl
-      sees-arguments d hs env b k h a g [] (part t ts) =
-          sees-join (weigh means flags d env k t) (total (w.weigh_each means flags d env k ts)) _ _ (sees d hs env b k h a g t) (sees-arguments d hs env b k h a g [] ts)
-      sees-arguments d hs env b k h a g (f ∷ fs) (part t ts) =
+      sees-each : (d : ℕ) (hs : Holders) (env : Env) (b : Bool) (k : Known) → i < d → HoldAll hs env → Holds k b → (fs : List Bool) (ts : Terms)
+          → Sees (total (marked fs (w.weigh_each means flags d env k ts))) (said.in_each means flags hs b fs ts)
+      sees-each d hs env b k h a g [] none = refl
+      sees-each d hs env b k h a g (f ∷ fs) none = refl
+      sees-each d hs env b k h a g [] (part t ts) =
+          sees-join (weigh means flags d env k t) (total (w.weigh_each means flags d env k ts)) _ _ (sees d hs env b k h a g t) (sees-each d hs env b k h a g [] ts)
+      sees-each d hs env b k h a g (f ∷ fs) (part t ts) =
           let x = weigh means flags d env k t in
-          sees-join (if f then all_primed x else x) (total (marked fs (w.weigh_each means flags d env k ts))) _ _ (sees-primed f x _ (sees d hs env b k h a g t)) (sees-arguments d hs env b k h a g fs ts)
+          sees-join (if f then all_primed x else x) (total (marked fs (w.weigh_each means flags d env k ts))) _ _ (sees-primed f x _ (sees d hs env b k h a g t)) (sees-each d hs env b k h a g fs ts)
 
       sees-sets : (d : ℕ) (hs : Holders) (env : Env) (b : Bool) (k : Known) → i < d → HoldAll hs env → Holds k b → (gs : Groups) → Sees (w.sets means flags d env k gs) (said.in_sets means flags hs b gs)
       sees-sets d hs env b k h a g end_groups = refl

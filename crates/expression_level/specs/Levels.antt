@@ -101,8 +101,7 @@ limited limit p j = (j.0, j.1 ++ fault_if (nat_lt limit j.0) p)
 
 -- the level of a primed expression
 abbrev pub raised : ℕ → ℕ
-raised zero = 0
-raised (suc l) = 2
+raised l = if nat_lt 0 l then 2 else 0
 
 abbrev pub primed_level : Place → Judged → Judged
 primed_level p j = (raised j.0, (limited 1 p j).1)

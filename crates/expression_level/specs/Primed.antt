@@ -50,31 +50,27 @@ module _ (means : Place → Option ℕ) (flags : Option ℕ → List Bool) where
   -- the parameter in an expression, where these names hold it and `@` does or does not
   abbrev mutual
     pub occurs : Holders → Bool → Term → Occurrence
-    occurs hs a (term (name w) ts p) = beside (arguments hs a (flags (means p)) ts) (here (is_holder hs (means p)))
-    occurs hs a (term (call w) ts p) = beside (arguments hs a (flags (means p)) ts) (here (is_holder hs (means p)))
-    occurs hs a (term prime ts p) = primed_if true (in_each hs a ts)
-    occurs hs a (term (prefixed o) ts p) = primed_if (is_word o (codes "UNCHANGED")) (in_each hs a ts)
+    occurs hs a (term (name w) ts p) = beside (in_each hs a (flags (means p)) ts) (here (is_holder hs (means p)))
+    occurs hs a (term (call w) ts p) = beside (in_each hs a (flags (means p)) ts) (here (is_holder hs (means p)))
+    occurs hs a (term prime ts p) = primed_if true (in_each hs a [] ts)
+    occurs hs a (term (prefixed o) ts p) = primed_if (is_word o (codes "UNCHANGED")) (in_each hs a [] ts)
     occurs hs a (term box none p) = nowhere
-    occurs hs a (term box (part t ts) p) = beside (occurs hs a t) (primed_if true (in_each hs a ts))
+    occurs hs a (term box (part t ts) p) = beside (occurs hs a t) (primed_if true (in_each hs a [] ts))
     occurs hs a (term angle none p) = nowhere
-    occurs hs a (term angle (part t ts) p) = beside (occurs hs a t) (primed_if true (in_each hs a ts))
+    occurs hs a (term angle (part t ts) p) = beside (occurs hs a t) (primed_if true (in_each hs a [] ts))
     occurs hs a (term at ts p) = here a
     occurs hs a (term (except us) none p) = nowhere
     occurs hs a (term (except us) (part t ts) p) = in_updates hs a (occurs hs a t) us
-    occurs hs a (term (quantifier all gs) ts p) = beside (in_sets hs a gs) (in_each hs a ts)
-    occurs hs a (term (choice gs) ts p) = beside (in_sets hs a gs) (in_each hs a ts)
-    occurs hs a (term (local ds) ts p) = beside (in_bodies hs a ds) (in_each (with_definitions hs a ds) a ts)
-    occurs hs a (term s ts p) = in_each hs a ts
+    occurs hs a (term (quantifier all gs) ts p) = beside (in_sets hs a gs) (in_each hs a [] ts)
+    occurs hs a (term (choice gs) ts p) = beside (in_sets hs a gs) (in_each hs a [] ts)
+    occurs hs a (term (local ds) ts p) = beside (in_bodies hs a ds) (in_each (with_definitions hs a ds) a [] ts)
+    occurs hs a (term s ts p) = in_each hs a [] ts
 
-    pub in_each : Holders → Bool → Terms → Occurrence
-    in_each hs a none = nowhere
-    in_each hs a (part t ts) = beside (occurs hs a t) (in_each hs a ts)
-
-    -- arguments, of which what is applied primes those with a flag
-    pub arguments : Holders → Bool → List Bool → Terms → Occurrence
-    arguments hs a fs none = nowhere
-    arguments hs a [] (part t ts) = beside (occurs hs a t) (arguments hs a [] ts)
-    arguments hs a (f ∷ fs) (part t ts) = beside (primed_if f (occurs hs a t)) (arguments hs a fs ts)
+    -- expressions side by side, of which those with a flag are primed
+    pub in_each : Holders → Bool → List Bool → Terms → Occurrence
+    in_each hs a fs none = nowhere
+    in_each hs a [] (part t ts) = beside (occurs hs a t) (in_each hs a [] ts)
+    in_each hs a (f ∷ fs) (part t ts) = beside (primed_if f (occurs hs a t)) (in_each hs a fs ts)
 
     pub in_sets : Holders → Bool → Groups → Occurrence
     in_sets hs a end_groups = nowhere

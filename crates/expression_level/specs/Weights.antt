@@ -23,6 +23,13 @@ pub record Weight : Type 0 where
 
 -- ---- under given levels of the parameters
 
+-- a level, and whether there is a fault
+abbrev pub Told : Type 0
+Told = ℕ × Bool
+
+abbrev pub merged : Told → Told → Told
+merged x y = (higher x.0 y.0, x.1 || y.1)
+
 abbrev pub counted : Use → ℕ → ℕ
 counted u l = higher (if u.plain then l else 0) (if u.raised then raised l else 0)
 
@@ -30,23 +37,17 @@ abbrev pub is_over : Option ℕ → ℕ → Bool
 is_over None l = false
 is_over (Some k) l = nat_lt k l
 
--- the level that the parameters give
-abbrev pub level_from : List Use → List ℕ → ℕ
-level_from [] ls = 0
-level_from (u ∷ us) [] = 0
-level_from (u ∷ us) (l ∷ ls) = higher (counted u l) (level_from us ls)
+-- the level that a parameter gives, and whether it is over its limit
+abbrev pub told_by : Use → ℕ → Told
+told_by u l = (counted u l, is_over u.limit l)
 
--- some parameter is over its limit
-abbrev pub breaks : List Use → List ℕ → Bool
-breaks [] ls = false
-breaks (u ∷ us) [] = false
-breaks (u ∷ us) (l ∷ ls) = is_over u.limit l || breaks us ls
+abbrev pub told_from : List Use → List ℕ → Told
+told_from [] ls = (0, false)
+told_from (u ∷ us) [] = (0, false)
+told_from (u ∷ us) (l ∷ ls) = merged (told_by u l) (told_from us ls)
 
-abbrev pub level_under : List ℕ → Weight → ℕ
-level_under ls w = higher w.least (level_from w.uses ls)
-
-abbrev pub fault_under : List ℕ → Weight → Bool
-fault_under ls w = has_fault w.faults || breaks w.uses ls
+abbrev pub told_under : List ℕ → Weight → Told
+told_under ls w = merged (w.least, has_fault w.faults) (told_from w.uses ls)
 
 -- ---- weights together
 
@@ -162,7 +163,7 @@ depth_of (defined d l us b) = d
 -- what it has under given levels of the parameters round it
 abbrev pub function_of : List ℕ → Known → Applied
 function_of ls arguments args = (greatest args, false)
-function_of ls (defined d l us b) args = (higher l (level_from us (take d ls ++ args)), b || breaks us (take d ls ++ args))
+function_of ls (defined d l us b) args = merged (l, b) (told_from us (take d ls ++ args))
 
 -- the first items, as many as this, 0 where there are no more
 abbrev pub padded : ℕ → List ℕ → List ℕ

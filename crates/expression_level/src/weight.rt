@@ -22,7 +22,7 @@ pub fn higher(first: u64, second: u64) -> u64
 pub fn raised(level: u64) -> u64
     ensures { result ≡ levels.raised level }
 {
-    if level == 0 { 0 } else { 2 }
+    if 0 < level { 2 } else { 0 }
 }
 
 /// The stricter of two limits.
