@@ -5,9 +5,9 @@ use Rattle.tla_ast.specs.declared.place.Place.{Place}
 use Rattle.expression_level.specs.declared.weight.Use.{Use}
 use Rattle.expression_level.specs.Levels.{Judged, Several, Applied, higher, raised, has_fault, fault_if, told, before, beside, overall, at_name, limited, primed_level, action_level}
 use Rattle.expression_level.specs.Weights as w
-use Rattle.expression_level.specs.Weights.{Weight, Known, merged, told_by, told_from, told_under, nothing, join, total, fixed, with_fault, capped, lifted, put, put_breaks, depth_of, function_of, primed_use, all_primed, primed_if, named}
+use Rattle.expression_level.specs.Weights.{Weight, Known, merged, told_by, told_from, told_under, nothing, join, total, fixed, with_fault, capped, lifted, depth_of, function_of, primed_use, all_primed, primed_if, named}
 use Rattle.expression_level.specs.Weights.Known.{arguments, defined}
-use Rattle.expression_level.proofs.Evaluation.{higher-none, or-false, merged-none, merged-zero, merged-assoc, from-zero, from-same, has-fault-append, has-fault-with, faulty, under-join, under-fixed, under-lifted, under-capped, under-with, told-put, put-has-no-fault}
+use Rattle.expression_level.proofs.Evaluation.{higher-none, or-false, merged-none, merged-zero, merged-assoc, from-zero, from-same, has-fault-append, has-fault-with, faulty, under-join, under-fixed, under-lifted, under-capped, under-with, told-put}
 
 -- ---- all levels 0
 
@@ -99,29 +99,31 @@ stands-at-name r p f arguments js xs n t =
     let e = n.1 js.0 in
     let c = (λ i. js.1 ++ fault_if (e i).1 p) ∙ append-nil js.1 in ((λ i. ((e i).0, has_fault (c i))) ∙ t.1.0, λ z. c ∙ t.1.1 z)
 stands-at-name r p f (defined d l us b) js xs n t =
-    let args = map (λ x. (told_under r x).0) xs in
     let own : Weight = record { least = l; uses = map named (take d us); faults = [] } in
-    let x = put (drop d us) xs in
-    let q = put_breaks (drop d us) xs in
+    let put = w.put p (drop d us) xs in
+    let given : Weight = record { least = put.least; uses = put.uses; faults = [] } in
+    let q = has_fault put.faults in
     let outer = told_from (take d us) r in
-    let all = join (fixed 0 (total xs)) (join own x) in
+    let x = told_from put.uses r in
+    let all = join (fixed 0 (total xs)) (join own given) in
     let found = n.1 js.0 ∙ ap (function_of r (defined d l us b)) t.0
-    ∙ ap (merged (l, b)) (split d us r args n.0 ∙ ap (merged outer) (told-put (drop d us) xs r)) in
+    ∙ ap (merged (l, b)) (split d us r (map (λ x. (told_under r x).0) xs) n.0 ∙ ap (merged outer) (told-put p (drop d us) xs r)) in
     let under = under-with r (b || q) p all
     ∙ ap (faulty (b || q)) (
-    under-join r (fixed 0 (total xs)) (join own x)
-    ∙ (λ i. merged (under-fixed r 0 (total xs) i) ((under-join r own x ∙ ap (λ y. merged (merged (l, false) y) (told_under r x)) (from-same named (λ u m. refl) (take d us) r)) i))
+    under-join r (fixed 0 (total xs)) (join own given)
+    ∙ (λ i. merged (under-fixed r 0 (total xs) i) ((under-join r own given ∙ ap (λ y. merged (merged (l, false) y) (told_under r given)) (from-same named (λ u m. refl) (take d us) r)) i))
     ) in (
       (λ i. ((f js.0).0, has-fault-with js.1 (f js.0).1 p i))
           ∙ (λ i. ((found i).0, (t.1.0 i).1 || (found i).1))
-          ∙ (λ i. (levels outer.0 (told_under r x).0 i, faults (told_under r (total xs)).1 outer.1 q (told_under r x).1 i))
+          ∙ (λ i. (levels outer.0 (higher put.least x.0) i, faults (told_under r (total xs)).1 outer.1 q x.1 i))
           ∙ sym under,
       λ z.
-          let none = ap (λ y. y.1) found ∙ (λ i. b || ((told-at-zeros (take d us) r z i).1 || (q || (has_fault (put-has-no-fault (drop d us) xs i) || (told-at-zeros x.uses r z i).1)))) ∙ ap (λ y. b || y) (or-false q) in
-          λ i. (t.1.1 z ∙ sym (append-nil (total xs).faults) ∙ ap (λ fs. (total xs).faults ++ fs) (sym (put-has-no-fault (drop d us) xs))) i ++ fault_if (none i) p,
+          let none = ap (λ y. y.1) found ∙ (λ i. b || ((told-at-zeros (take d us) r z i).1 || (q || (told-at-zeros put.uses r z i).1))) ∙ ap (λ y. b || y) (or-false q) in
+          λ i. (t.1.1 z ∙ sym (append-nil (total xs).faults)) i ++ fault_if (none i) p,
     )
   where
-    levels : (c m : ℕ) → higher l (higher c (higher 0 m)) ≡ higher 0 (higher (higher l c) m)
+    levels : (c m : ℕ) → higher l (higher c m) ≡ higher 0 (higher (higher l c) m)
     levels c m = grind arith
+
     faults : (t a q c : Bool) → (t || (b || (a || (q || c)))) ≡ ((t || ((false || a) || c)) || (b || q))
     faults t a q c = grind arith

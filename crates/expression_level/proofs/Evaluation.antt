@@ -3,7 +3,7 @@ use Rattle.std.proofs.Common.{◌≡◌, ℕ, Bool, true, false, ◌||◌, ◌&&
 use Rattle.tla_ast.specs.declared.place.Place.{Place}
 use Rattle.expression_level.specs.declared.weight.Use.{Use}
 use Rattle.expression_level.specs.Levels.{higher, raised, has_fault, fault_if}
-use Rattle.expression_level.specs.Weights.{Weight, Told, merged, counted, is_over, told_by, told_from, told_under, stricter, both, all_uses, join, kept, fixed, with_fault, asked, capped_use, capped, raised_use, lifted, passed_limit, passed, argument, put, put_breaks}
+use Rattle.expression_level.specs.Weights.{Weight, Told, merged, counted, is_over, told_by, told_from, told_under, stricter, both, all_uses, join, kept, fixed, with_fault, asked, capped_use, capped, raised_use, lifted, passed_limit, passed, argument, put}
 
 -- ---- numbers and tests
 
@@ -94,6 +94,7 @@ over-asked k u l =
     by-test : (t : Bool) (m : ℕ) → is_over (if t then Some m else None) l ≡ (t && nat_lt m l)
     by-test true m = refl
     by-test false m = refl
+
     numbers : (p r : Bool) → ((p && nat_lt k l) || ((r && nat_lt k 2) && nat_lt 0 l)) ≡ nat_lt k (count p r l)
     numbers p r = grind arith
 
@@ -183,6 +184,7 @@ under-capped ls k w =
   where
     either : (a b : Bool) (l m : ℕ) → ((a || b) || nat_lt k (higher l m)) ≡ ((a || nat_lt k l) || (b || nat_lt k m))
     either a b l m = grind arith
+
     least : (a b : Bool) (l m : ℕ) → ((a || (b || nat_lt k m)) || nat_lt k l) ≡ ((a || b) || nat_lt k (higher l m))
     least a b l m = grind arith
 
@@ -194,23 +196,10 @@ under-with ls b p w i = (higher w.least (told_from w.uses ls).0, (ap (λ c. c ||
 
 -- ---- arguments
 
-pub put-has-no-fault : (us : List Use) (ws : List Weight) → (put us ws).faults ≡ []
-put-has-no-fault [] ws = refl
-put-has-no-fault (u ∷ us) [] = refl
-put-has-no-fault (u ∷ us) (w ∷ ws) = put-has-no-fault us ws
-
-pub told-put : (us : List Use) (ws : List Weight) (ls : List ℕ) → told_from us (map (λ w. (told_under ls w).0) ws) ≡ merged (0, put_breaks us ws) (told_under ls (put us ws))
-told-put [] ws ls = refl
-told-put (u ∷ us) [] ls = refl
-told-put (u ∷ us) (w ∷ ws) ls =
-    let rest = told_under ls (put us ws) in
-    let l = (told_from w.uses ls).0 in
-    (λ i. merged (told-higher u w.least l i) (told-put us ws ls i))
-    ∙ (λ i. (levels (counted u w.least) (counted u l) rest.0 i, faults (is_over u.limit w.least) (is_over u.limit l) (put_breaks us ws) rest.1 i))
-    ∙ ap (merged (0, is_over u.limit w.least || put_breaks us ws))
-    (sym (under-join ls (argument u w) (put us ws) ∙ ap (λ x. merged (merged (counted u w.least, false) x) rest) (from-passed u w.uses ls)))
-  where
-    levels : (a b c : ℕ) → higher (higher a b) (higher 0 c) ≡ higher 0 (higher (higher a b) c)
-    levels a b c = grind arith
-    faults : (a b c d : Bool) → ((a || b) || (c || d)) ≡ ((a || c) || ((false || b) || d))
-    faults a b c d = grind arith
+pub told-put : (p : Place) (us : List Use) (ws : List Weight) (ls : List ℕ) → told_from us (map (λ w. (told_under ls w).0) ws) ≡ told_under ls (put p us ws)
+told-put p [] ws ls = refl
+told-put p (u ∷ us) [] ls = refl
+told-put p (u ∷ us) (w ∷ ws) ls =
+    (λ i. merged (told-higher u w.least (told_from w.uses ls).0 i) (told-put p us ws ls i))
+    ∙ (λ i. merged (merged (counted u w.least, sym (has-fault-with [] (is_over u.limit w.least) p) i) (sym (from-passed u w.uses ls) i)) (told_under ls (put p us ws)))
+    ∙ sym (under-join ls (argument p u w) (put p us ws))

@@ -60,9 +60,6 @@ judged-is ss es ks c t =
 
 -- ---- the list of what is kept
 
-pub constant-is : (k : ℕ) → function_of [] (defined 0 k [] false) ≡ declared_level k false
-constant-is k i args = (higher-none k i, false)
-
 set-at : (ks : List Known) (n m : ℕ) (k : Known) → n < length ks → get_or (set ks n k) m arguments ≡ (if nat_eq n m then k else get_or ks m arguments)
 set-at [] n m k h = absurd (omega (arith, h))
 set-at (x ∷ ks) zero zero k h = refl

@@ -50,11 +50,11 @@ seen-take i (suc d) [] h = refl
 seen-take zero (suc d) (u ∷ us) h = refl
 seen-take (suc i) (suc d) (u ∷ us) h = seen-take i d us (omega (arith, h))
 
-seen-put : (i : ℕ) (us : List Use) (ws : List Weight) → seen i (put us ws).uses ≡ nowhere
-seen-put i [] ws = refl
-seen-put i (u ∷ us) [] = refl
-seen-put i (u ∷ us) (x ∷ ws) =
-    seen-all i (map (passed u) x.uses) (put us ws).uses ∙ (λ j. beside (seen-map (passed u) (λ y. nowhere) refl (λ v. refl) i x.uses j) (seen-put i us ws j))
+seen-put : (i : ℕ) (p : Place) (us : List Use) (ws : List Weight) → seen i (put p us ws).uses ≡ nowhere
+seen-put i p [] ws = refl
+seen-put i p (u ∷ us) [] = refl
+seen-put i p (u ∷ us) (x ∷ ws) =
+    seen-all i (map (passed u) x.uses) (put p us ws).uses ∙ (λ j. beside (seen-map (passed u) (λ y. nowhere) refl (λ v. refl) i x.uses j) (seen-put i p us ws j))
 
 -- what stands round a known name
 abbrev round : Known → List Use
@@ -116,8 +116,8 @@ module _ (i : ℕ) where
   sees-name p arguments b xs o h s = s ∙ sym (beside-nowhere o) ∙ ap (λ c. beside o (here c)) h
   sees-name p (defined d l us f) b xs o h s =
       let name = seen-map named (λ (x : Occurrence). here x.held) refl (λ u. refl) i (take d us) ∙ ap here h in
-      seen-all i (map kept (total xs).uses) (all_uses (map named (take d us)) (put (drop d us) xs).uses)
-      ∙ (λ j. beside (sees-fixed 0 (total xs) o s j) ((seen-all i (map named (take d us)) (put (drop d us) xs).uses ∙ (λ m. beside (name m) (seen-put i (drop d us) xs m)) ∙ beside-nowhere (here b)) j))
+      seen-all i (map kept (total xs).uses) (all_uses (map named (take d us)) (put p (drop d us) xs).uses)
+      ∙ (λ j. beside (sees-fixed 0 (total xs) o s j) ((seen-all i (map named (take d us)) (put p (drop d us) xs).uses ∙ (λ m. beside (name m) (seen-put i p (drop d us) xs m)) ∙ beside-nowhere (here b)) j))
 
   -- ---- what all numbers hold
 
@@ -197,7 +197,7 @@ module _ (i : ℕ) where
           let q = beside o (said.in_keys means flags hs b ks) in
           let u : Sees y q = sees-join x (w.keys means flags d env k ks) o (said.in_keys means flags hs b ks) s (sees-keys d hs env b k h a g ks) in
           let at : Holds (result_so_far d y) q.held =
-              ap (λ z. z.held) (seen-take i d (map unlimited (take d y.uses)) h ∙ seen-same unlimited (λ v. refl) i (take d y.uses) ∙ seen-take i d y.uses h ∙ u) in
+          ap (λ z. z.held) (seen-take i d (map unlimited (take d y.uses)) h ∙ seen-same unlimited (λ v. refl) i (take d y.uses) ∙ seen-take i d y.uses h ∙ u) in
           let v = weigh means flags d env (result_so_far d y) t in
           sees-updates d hs env b k h a g (join y v) (beside q (occurs means flags hs q.held t)) (sees-join y v q _ u (sees d hs env q.held (result_so_far d y) h a at t)) us
 
@@ -252,6 +252,7 @@ module _ (means : Place → Option ℕ) (flags : Option ℕ → List Bool) (k : 
     where
       plus : (i n : ℕ) → i + suc n ≡ suc i + n
       plus i n = omega arith
+
       never : (o : Option ℕ) (n : ℕ) → bind o false (λ m. false) n ≡ false
       never None n = refl
       never (Some m) n = by-test (nat_eq m n)
@@ -259,6 +260,7 @@ module _ (means : Place → Option ℕ) (flags : Option ℕ → List Bool) (k : 
           by-test : (b : Bool) → (if b then false else false) ≡ false
           by-test true = refl
           by-test false = refl
+
       blank : (i : ℕ) (env : Env) (o : Option ℕ) → Blank i env → Blank (suc i) (bind o (parameter i) env)
       blank i env o a j n h =
           hold-bound j (λ m. false) env o false (parameter i) (λ m. a j m (omega (arith, h))) (ap (λ x. x.held) (seen-other i j (λ e. omega (arith, h, e)))) n ∙ never o n

@@ -190,9 +190,6 @@ module _ (c : Names) (d : ℕ) (k : Known) where
       ap (weight_of c d k) (is-choice n g e)
       ∙ ap (λ x. join x (total (weights_of c d k (parts_in n)))) (sets-group g Groups.end_groups ∙ joined-nothing (domain_weight c d k (out-Group g).domain))
 
-  pub sets-starts : (gs : List Group) → join nothing (sets_of c d k (each_group gs)) ≡ sets_of c d k (each_group gs)
-  sets-starts gs = nothing-joined (sets_of c d k (each_group gs))
-
   pub sets-next : (all now next x : Weight) (gs rest : List Group) (g : Group) → join now (sets_of c d k (each_group gs)) ≡ all → gs ≡ g ∷ rest
       → x ≡ domain_weight c d k (out-Group g).domain → next ≡ join now x → join next (sets_of c d k (each_group rest)) ≡ all
   sets-next all now next x gs rest g h e w a =
@@ -220,9 +217,6 @@ module _ (c : Names) (d : ℕ) (k : Known) where
 
   pub weighs-field-key : (y : Key) (h : Text) → y ≡ key.Field h → keys_on c d k (each_key (y ∷ [])) ≡ nothing
   weighs-field-key y h e = ap (λ z. keys_on c d k (each_key (z ∷ []))) e ∙ ap (λ (f : Keys → Keys). keys_on c d k (f Keys.end_keys)) (is-field-key h)
-
-  pub keys-starts : (ks : List Key) → join nothing (keys_on c d k (each_key ks)) ≡ keys_on c d k (each_key ks)
-  keys-starts ks = nothing-joined (keys_on c d k (each_key ks))
 
   pub keys-next : (all now next x : Weight) (ks rest : List Key) (y : Key) → join now (keys_on c d k (each_key ks)) ≡ all → ks ≡ y ∷ rest
       → x ≡ keys_on c d k (each_key (y ∷ [])) → next ≡ join now x → join next (keys_on c d k (each_key rest)) ≡ all
@@ -277,9 +271,6 @@ module _ (c : Names) (d : ℕ) (k : Known) where
       ap (λ z. fold (turned c d k) z (map (λ n. term_of n.now) (drop (i + 1) xs))) (a ∙ ap (λ z. turned z d k stack (term_of x.now)) q)
       ∙ ap (λ z. fold (turned c d k) stack (map (λ n. term_of n.now) z)) (sym n) ∙ h
 
-  pub no-more-paths : (ns : List Node) (x : Weight) → updates_on c d k [] ns x ≡ x
-  no-more-paths ns x = refl
-
   pub no-more-values : (ps : List Path) (x : Weight) → updates_on c d k ps [] x ≡ x
   no-more-values [] x = refl
   no-more-values (p ∷ ps) x = refl
@@ -322,9 +313,6 @@ module _ (c : Names) (d : ℕ) (k : Known) where
       ap (weight_of c d k) (by-form n (held (out-Node n).form) refl) ∙ plain (out-Node n).form (map term_of (out-Node n).parts) (out-Node n).place hn hc hb ha ht he hq hg hl
 
 -- ---- one definition after another
-
-pub bodies-start : (s : Names) (d : ℕ) (k : Known) (ds : List Def) → join nothing (bodies_of s d k (each_def ds)) ≡ bodies_of s d k (each_def ds)
-bodies-start s d k ds = nothing-joined (bodies_of s d k (each_def ds))
 
 pub bodies-step : (d : ℕ) (k : Known) (all now next x : Weight) (s t : Names) (ds rest : List Def) (y : Def) → join now (bodies_of s d k (each_def ds)) ≡ all → ds ≡ y ∷ rest
     → t ≡ with_definition d k (out-Def y).params (term_of (out-Def y).body) (out-Def y).place s → x ≡ asked_round d (body_weight s d k (out-Def y).params (term_of (out-Def y).body))

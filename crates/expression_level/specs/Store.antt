@@ -7,7 +7,7 @@ use Rattle.expression_level.specs.declared.weight.Use.{Use}
 use Rattle.expression_level.specs.declared.weight.Change.{Change}
 use Rattle.expression_level.specs.declared.weight.Change.TheVariants as change
 use Rattle.expression_level.specs.Levels.{Levels}
-use Rattle.expression_level.specs.Weights.{Known, depth_of, function_of, kept, capped_use, raised_use, unlimited, primed_use, named}
+use Rattle.expression_level.specs.Weights.{Known, depth_of, function_of, kept, capped_use, raised_use, unlimited, primed_use, named, passed}
 use Rattle.expression_level.specs.Weights.Known.{arguments, defined}
 use Rattle.expression_level.specs.declared.known.Definition.{Definition}
 
@@ -19,6 +19,7 @@ changed change.Raised u = raised_use u
 changed change.Unlimited u = unlimited u
 changed change.Primed u = primed_use u
 changed change.Named u = named u
+changed (change.Passed v) u = passed v u
 
 abbrev pub known_of : Option Definition → Known
 known_of None = arguments

@@ -216,18 +216,14 @@ passed u v = record {
   primed = false;
 }
 
-abbrev pub argument : Use → Weight → Weight
-argument u w = record { least = counted u w.least; uses = map (passed u) w.uses; faults = [] }
+-- and its level; a fault where it is over its limit in any case
+abbrev pub argument : Place → Use → Weight → Weight
+argument p u w = record { least = counted u w.least; uses = map (passed u) w.uses; faults = fault_if (is_over u.limit w.least) p }
 
-abbrev pub put : List Use → List Weight → Weight
-put [] ws = nothing
-put (u ∷ us) [] = nothing
-put (u ∷ us) (w ∷ ws) = join (argument u w) (put us ws)
-
-abbrev pub put_breaks : List Use → List Weight → Bool
-put_breaks [] ws = false
-put_breaks (u ∷ us) [] = false
-put_breaks (u ∷ us) (w ∷ ws) = is_over u.limit w.least || put_breaks us ws
+abbrev pub put : Place → List Use → List Weight → Weight
+put p [] ws = nothing
+put p (u ∷ us) [] = nothing
+put p (u ∷ us) (w ∷ ws) = join (argument p u w) (put p us ws)
 
 -- what a definition holds stands where its name does; what it primes is primed where its body is
 abbrev pub named : Use → Use
@@ -236,8 +232,9 @@ named u = record u { primed = false }
 abbrev pub at_name : Place → Known → List Weight → Weight
 at_name p arguments ws = total ws
 at_name p (defined d l us b) ws =
-    with_fault (b || put_breaks (drop d us) ws) p
-    (join (fixed 0 (total ws)) (join (record { least = l; uses = map named (take d us); faults = [] }) (put (drop d us) ws)))
+    let given = put p (drop d us) ws in
+    with_fault (b || has_fault given.faults) p
+    (join (fixed 0 (total ws)) (join (record { least = l; uses = map named (take d us); faults = [] }) (record given { faults = [] })))
 
 abbrev pub primed_if : Bool → Weight → Weight
 primed_if b w = if b then all_primed w else w

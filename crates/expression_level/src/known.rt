@@ -172,30 +172,17 @@ pub fn total(alloc: Global, weights: Vec<Weight>) -> Result<Weight, Memory>
     Ok(all)
 }
 
-/// What arguments give where they are used so.
-fn put(alloc: Global, own: &[Use], args: &[Weight]) -> Result<Weight, Memory>
-    ensures { IfOk result (λ all. all ≡ spec.put own.now args.now) }
+/// What arguments give where they are used so, with a fault at the place for each that is over its limit.
+fn put(alloc: Global, own: &[Use], args: &[Weight], place: Place) -> Result<Weight, Memory>
+    ensures { IfOk result (λ all. all ≡ spec.put place own.now args.now) }
 {
     let mut all = Weight::nothing(alloc);
     for index in 0..own.len().min(args.len()) {
         let arg = &args[index];
-        let given = arg.argument(alloc, own[index])?;
+        let given = arg.argument(alloc, own[index], place)?;
         all.join(given)?;
     }
     Ok(all)
-}
-
-/// Whether an argument is over its limit, whatever parameters have.
-fn put_breaks(own: &[Use], args: &[Weight]) -> bool
-    ensures { result ≡ spec.put_breaks own.now args.now }
-{
-    for index in 0..own.len().min(args.len()) {
-        let arg = &args[index];
-        if own[index].is_over(arg.least) {
-            return true;
-        }
-    }
-    false
 }
 
 impl Definition {
@@ -219,9 +206,9 @@ impl Definition {
         ensures { IfOk result (λ weight. weight ≡ spec.at_name place
             (seen.defined self.now.depth self.now.least self.now.uses.items self.now.has_fault) args.items) }
     {
-        let own = behind(&self.uses, self.depth);
-        let is_fault = self.has_fault || put_breaks(own, &args);
-        let given = put(alloc, own, &args)?;
+        let mut given = put(alloc, behind(&self.uses, self.depth), &args, place)?;
+        let is_over = given.settle();
+        let is_fault = self.has_fault || is_over;
         let mut outer = self.outer(alloc)?;
         outer.join(given)?;
         let mut all = total(alloc, args)?;

@@ -115,7 +115,7 @@ impl Levels {
             least,
             uses: _,
             faults,
-        } = weigh(alloc, &mut names, 0, &at, node)?;
+        } = weigh(&mut names, 0, &at, node)?;
         Ok(Judged {
             level: least,
             faults,
@@ -166,9 +166,9 @@ fn body_known(
         (symbol_at symbols.now) (flags_of entries.now) params.now (term_of body.now)) }
 {
     let mut names = Names::new(alloc, symbols, entries, known);
-    let inner = names.bind_parameters(alloc, 0, params)?;
+    let inner = names.bind_parameters(0, params)?;
     let at = Known::constant(alloc, 0);
-    let weight = weigh(alloc, &mut names, inner, &at, body)?;
+    let weight = weigh(&mut names, inner, &at, body)?;
     let found = Defined {
         level: weight.least,
         primed: weight.primed(alloc, inner)?,

@@ -22,6 +22,7 @@ pub struct Local {
 /// come before what is declared; the newest of a number counts.
 #[derive(Drop)]
 pub struct Names<'a> {
+    alloc: Global,
     symbols: &'a Symbols,
     entries: &'a [Entry],
     declared: &'a [Known],
@@ -47,11 +48,17 @@ impl<'a> Names<'a> {
         ensures { result ≡ spec.names_of symbols.now entries.now declared.now }
     {
         Names {
+            alloc,
             symbols,
             entries,
             declared,
             locals: Vec::new(alloc),
         }
+    }
+
+    /// What gives memory.
+    pub fn alloc(&self) -> Global {
+        self.alloc
     }
 
     /// What the newest parameter or definition of a number has.
@@ -118,18 +125,13 @@ impl<'a> Names<'a> {
     }
 
     /// The parameters of a definition, which stand for themselves, behind so many others. Answers how many there are then.
-    pub fn bind_parameters(
-        &mut self,
-        alloc: Global,
-        depth: usize,
-        params: &[Decl],
-    ) -> Result<usize, Memory>
+    pub fn bind_parameters(&mut self, depth: usize, params: &[Decl]) -> Result<usize, Memory>
         ensures bound { OnOk result (self.new ≡ spec.with_parameters depth params.now self.old) }
         ensures depth { IfOk result (λ inner. inner ≡ depth + length params.now) }
     {
         let mut inner = depth;
         for param in params {
-            self.bind(param.place, Known::parameter(alloc, inner)?)?;
+            self.bind(param.place, Known::parameter(self.alloc, inner)?)?;
             inner = inner.checked_add(1).ok_or(Memory)?;
         }
         Ok(inner)

@@ -1,6 +1,6 @@
 //! How levels depend on parameters.
 
-ghost use Rattle.std.specs.Prelude.{◌≡◌, ◌||◌, ◌++◌, map, get_or, IfOk, OnOk};
+ghost use Rattle.std.specs.Prelude.{◌≡◌, ◌||◌, ◌++◌, [], map, get_or, IfOk, OnOk};
 ghost use Rattle.expression_level.specs.Levels as levels;
 ghost use Rattle.expression_level.specs.Weights as spec;
 ghost use Rattle.expression_level.specs.Store.{changed};
@@ -62,6 +62,8 @@ pub enum Change {
     Primed,
     /// The expression has a name, which primes nothing.
     Named,
+    /// The expression is an argument that is used so.
+    Passed(Use),
 }
 
 impl Use {
@@ -170,6 +172,7 @@ impl Use {
                 primed: false,
                 ..self
             },
+            Change::Passed(outer) => outer.passed(self),
         }
     }
 }
@@ -205,17 +208,6 @@ fn is_primed(uses: &[Use], position: usize) -> bool
         None => false,
         Some(found) => found.primed,
     }
-}
-
-/// How the parameters of an argument count where the argument is used so.
-fn passed_uses(alloc: Global, outer: Use, uses: &[Use]) -> Result<Vec<Use>, Memory>
-    ensures { IfOk result (λ passed. passed.items ≡ map (spec.passed outer) uses.now) }
-{
-    let mut passed = Vec::new(alloc);
-    for inner in uses {
-        passed.push(outer.passed(*inner))?;
-    }
-    Ok(passed)
 }
 
 /// How the level of an expression depends on the levels of the parameters round it: the level where all have level 0, how each
@@ -326,14 +318,29 @@ impl Weight {
         }
     }
 
-    /// What an argument gives where it is used so.
-    pub fn argument(&self, alloc: Global, outer: Use) -> Result<Weight, Memory>
-        ensures { IfOk result (λ weight. weight ≡ spec.argument outer self.now) }
+    /// What an argument gives where it is used so, with a fault at the place if it is over its limit.
+    pub fn argument(&self, alloc: Global, outer: Use, place: Place) -> Result<Weight, Memory>
+        ensures { IfOk result (λ weight. weight ≡ spec.argument place outer self.now) }
     {
-        Ok(Weight {
+        let mut uses = Vec::new(alloc);
+        uses.extend_from_slice(&self.uses)?;
+        change_all(&mut uses, Change::Passed(outer));
+        let mut given = Weight {
             least: outer.counted(self.least),
-            uses: passed_uses(alloc, outer, &self.uses)?,
+            uses,
             faults: Vec::new(alloc),
-        })
+        };
+        given.note(outer.is_over(self.least), place)?;
+        Ok(given)
+    }
+
+    /// Gives up its faults. Answers whether there was one.
+    pub fn settle(&mut self) -> bool
+        ensures settled { self.new ≡ record { least = self.old.least; uses = self.old.uses; faults = [] } }
+        ensures found { result ≡ levels.has_fault self.old.faults }
+    {
+        let found = !self.faults.is_empty();
+        self.faults.clear();
+        found
     }
 }
