@@ -9,9 +9,9 @@ use Rattle.expression_level.specs.Levels.{Levels, Applied, higher, told, level, 
 use Rattle.expression_level.specs.Levels as l
 use Rattle.expression_level.specs.Primed.{primed_parameters}
 use Rattle.expression_level.proofs.Occurring.{primed-next, blank-closed}
-use Rattle.expression_level.specs.Weights.{Known, primed_first, depth_of, function_of, padded, definition, with_parameters, weigh}
+use Rattle.expression_level.specs.Weights.{Known, primed_first, depth_of, function_of, padded, definition}
 use Rattle.expression_level.specs.Weights.Known.{arguments, defined}
-use Rattle.expression_level.specs.Scope.{names_of, declared_env, body_weight, weight_of}
+use Rattle.expression_level.specs.Scope.{Env, names_of, body_weight, weight_of, with_parameters, weigh}
 use Rattle.expression_level.specs.Store.{levels_of, flags_of, AllClosed}
 use Rattle.symbol_table.specs.declared.entry.Entry.{Entry}
 use Rattle.expression_level.proofs.Evaluation.{higher-none, from-none}
@@ -25,6 +25,9 @@ closed-at : (ks : List Known) (n : ℕ) → AllClosed ks → depth_of (get_or ks
 closed-at [] n c = refl
 closed-at (k ∷ ks) zero c = c.0
 closed-at (k ∷ ks) (suc n) c = closed-at ks n c.1
+
+abbrev declared_env : List Known → Env
+declared_env ks = record { declared = ks; locals = [] }
 
 agrees : (m : Place → Option ℕ) (fs : Option ℕ → List Bool) (ks : List Known) → AllClosed ks → Agree m fs [] 0 (levels_of ks) (declared_env ks) 0 at_first
 agrees m fs ks c = (refl, (λ n. ((let e = closed-at ks n c in omega (arith, e)), λ args. refl), (omega arith, λ args. refl)))

@@ -15,7 +15,10 @@ use Rattle.expression_level.specs.declared.weight.Use.{Use}
 use Rattle.expression_level.specs.Levels as l
 use Rattle.expression_level.specs.Levels.{Judged, Several, Applied, Levels, higher, has_fault, told, constantly, bind, applied, is_word}
 use Rattle.expression_level.specs.Weights as w
-use Rattle.expression_level.specs.Weights.{Weight, Known, Env, merged, told_by, told_from, told_under, depth_of, function_of, padded, unused, uses_of, parameter, definition, unlimited, result_so_far, asked_round, known}
+use Rattle.expression_level.specs.Scope as walk
+use Rattle.expression_level.specs.Scope.{Env, at_number, known, with_local}
+use Rattle.expression_level.proofs.Locals.{at-bound}
+use Rattle.expression_level.specs.Weights.{Weight, Known, merged, told_by, told_from, told_under, depth_of, function_of, padded, unused, uses_of, parameter, definition, unlimited, result_so_far, asked_round}
 use Rattle.expression_level.specs.Weights.Known.{arguments, defined}
 use Rattle.expression_level.proofs.Evaluation.{higher-none, merged-zero, from-none, from-zero, from-unlimited, under-fixed}
 use Rattle.expression_level.proofs.Agreement.{Zeros, Stands, StandEach, Knows, stands-nothing, stands-beside, stands-fixed, stands-limited, stands-primed, stands-action, stands-if, each-before, stands-at-name}
@@ -110,13 +113,13 @@ stands-round r d n j x e s = (
 -- ---- what all numbers have
 
 abbrev pub KnowAll : List ℕ → Levels → Env → Type 0
-KnowAll r ls env = (n : ℕ) → Knows r (ls n) (env n)
+KnowAll r ls env = (n : ℕ) → Knows r (ls n) (at_number env n)
 
-knows-bound : (r : List ℕ) (ls : Levels) (env : Env) (o : Option ℕ) (f : Applied) (k : Known) → KnowAll r ls env → Knows r f k → KnowAll r (bind o f ls) (bind o k env)
+knows-bound : (r : List ℕ) (ls : Levels) (env : Env) (o : Option ℕ) (f : Applied) (k : Known) → KnowAll r ls env → Knows r f k → KnowAll r (bind o f ls) (with_local o k env)
 knows-bound r ls env None f k a n = a
-knows-bound r ls env (Some m) f k a n = λ q. by-test q (nat_eq m q)
+knows-bound r ls env (Some m) f k a n = λ q. subst (Knows r (bind (Some m) f ls q)) (sym (at-bound env m k q)) (by-test q (nat_eq m q))
   where
-    by-test : (q : ℕ) (t : Bool) → Knows r (if t then f else ls q) (if t then k else env q)
+    by-test : (q : ℕ) (t : Bool) → Knows r (if t then f else ls q) (if t then k else at_number env q)
     by-test q true = n
     by-test q false = a q
 
@@ -134,21 +137,21 @@ length-with r d n args e = let a = length-append r (padded n args) in let b = le
 
 module _ (means : Place → Option ℕ) (flags : Option ℕ → List Bool) where
   knows-one : (r : List ℕ) (d : ℕ) (ls : Levels) (env : Env) (p : Decl) (l : ℕ) → length r ≡ d → KnowAll r ls env
-      → KnowAll (r ++ l ∷ []) (bind (means p.place) (constantly l) ls) (bind (means p.place) (parameter d) env)
+      → KnowAll (r ++ l ∷ []) (bind (means p.place) (constantly l) ls) (with_local (means p.place) (parameter d) env)
   knows-one r d ls env p l e a =
-      knows-bound (r ++ l ∷ []) ls env (means p.place) (constantly l) (parameter d) (λ n. knows-more r (l ∷ []) (ls n) (env n) (a n)) (knows-parameter d r l e)
+      knows-bound (r ++ l ∷ []) ls env (means p.place) (constantly l) (parameter d) (λ n. knows-more r (l ∷ []) (ls n) (at_number env n) (a n)) (knows-parameter d r l e)
 
   knows-parameters : (ps : List Decl) (args r : List ℕ) (d : ℕ) (ls : Levels) (env : Env) → length r ≡ d → KnowAll r ls env
-      → KnowAll (r ++ padded (length ps) args) (l.with_parameters means ls ps args) (w.with_parameters means d env ps)
+      → KnowAll (r ++ padded (length ps) args) (l.with_parameters means ls ps args) (walk.with_parameters means d env ps)
   knows-parameters [] args r d ls env e a = subst (λ s. KnowAll s ls env) (sym (append-nil r)) a
   knows-parameters (p ∷ ps) [] r d ls env e a =
-      let rest = knows-parameters ps [] (r ++ 0 ∷ []) (suc d) (bind (means p.place) (constantly 0) ls) (bind (means p.place) (parameter d) env)
+      let rest = knows-parameters ps [] (r ++ 0 ∷ []) (suc d) (bind (means p.place) (constantly 0) ls) (with_local (means p.place) (parameter d) env)
       (let h = length-append r (0 ∷ []) in omega (arith, h, e)) (knows-one r d ls env p 0 e a) in
-      subst (λ s. KnowAll s (l.with_parameters means ls (p ∷ ps) []) (w.with_parameters means d env (p ∷ ps))) (append_assoc r (0 ∷ []) (padded (length ps) [])) rest
+      subst (λ s. KnowAll s (l.with_parameters means ls (p ∷ ps) []) (walk.with_parameters means d env (p ∷ ps))) (append_assoc r (0 ∷ []) (padded (length ps) [])) rest
   knows-parameters (p ∷ ps) (x ∷ args) r d ls env e a =
-      let rest = knows-parameters ps args (r ++ x ∷ []) (suc d) (bind (means p.place) (constantly x) ls) (bind (means p.place) (parameter d) env)
+      let rest = knows-parameters ps args (r ++ x ∷ []) (suc d) (bind (means p.place) (constantly x) ls) (with_local (means p.place) (parameter d) env)
       (let h = length-append r (x ∷ []) in omega (arith, h, e)) (knows-one r d ls env p x e a) in
-      subst (λ s. KnowAll s (l.with_parameters means ls (p ∷ ps) (x ∷ args)) (w.with_parameters means d env (p ∷ ps))) (append_assoc r (x ∷ []) (padded (length ps) args)) rest
+      subst (λ s. KnowAll s (l.with_parameters means ls (p ∷ ps) (x ∷ args)) (walk.with_parameters means d env (p ∷ ps))) (append_assoc r (x ∷ []) (padded (length ps) args)) rest
 
   -- ---- all expressions
 
@@ -157,7 +160,7 @@ module _ (means : Place → Option ℕ) (flags : Option ℕ → List Bool) where
   Agree r d ls env a k = (length r ≡ d) × (KnowAll r ls env × Knows r (constantly a) k)
 
   pub agree-inside : (r : List ℕ) (d : ℕ) (ls : Levels) (env : Env) (a : ℕ) (k : Known) (ps : List Decl) (args : List ℕ) → Agree r d ls env a k
-      → Agree (r ++ padded (length ps) args) (d + length ps) (l.with_parameters means ls ps args) (w.with_parameters means d env ps) a k
+      → Agree (r ++ padded (length ps) args) (d + length ps) (l.with_parameters means ls ps args) (walk.with_parameters means d env ps) a k
   agree-inside r d ls env a k ps args g =
       (length-with r d (length ps) args g.0, (knows-parameters ps args r d ls env g.0 g.1.0, knows-more r (padded (length ps) args) (constantly a) k g.1.1))
 
@@ -173,103 +176,103 @@ module _ (means : Place → Option ℕ) (flags : Option ℕ → List Bool) where
 
   -- one definition
   knows-next : (r : List ℕ) (d : ℕ) (ls : Levels) (env : Env) (a : ℕ) (k : Known) → Agree r d ls env a k → (ps : List Decl) (t : Term) (o : Option ℕ)
-      → ((args : List ℕ) → Stands (r ++ padded (length ps) args) (l.level means (l.with_parameters means ls ps args) a t) (w.weigh means flags (d + length ps) (w.with_parameters means d env ps) k t))
-      → KnowAll r (bind o (λ args. told (l.level means (l.with_parameters means ls ps args) a t)) ls) (bind o (definition d (length ps) (w.weigh means flags (d + length ps) (w.with_parameters means d env ps) k t)) env)
+      → ((args : List ℕ) → Stands (r ++ padded (length ps) args) (l.level means (l.with_parameters means ls ps args) a t) (walk.weigh means flags (d + length ps) (walk.with_parameters means d env ps) k t))
+      → KnowAll r (bind o (λ args. told (l.level means (l.with_parameters means ls ps args) a t)) ls) (with_local o (definition d (length ps) (walk.weigh means flags (d + length ps) (walk.with_parameters means d env ps) k t)) env)
   knows-next r d ls env a k g ps t o s =
-      let x = w.weigh means flags (d + length ps) (w.with_parameters means d env ps) k t in
+      let x = walk.weigh means flags (d + length ps) (walk.with_parameters means d env ps) k t in
       knows-bound r ls env o _ (definition d (length ps) x) g.1.0
       (knows-definition r d (length ps) (λ args. l.level means (l.with_parameters means ls ps args) a t) x g.0 s)
 
   mutual
-    pub stands : (r : List ℕ) (d : ℕ) (ls : Levels) (env : Env) (a : ℕ) (k : Known) → Agree r d ls env a k → (t : Term) → Stands r (l.level means ls a t) (w.weigh means flags d env k t)
+    pub stands : (r : List ℕ) (d : ℕ) (ls : Levels) (env : Env) (a : ℕ) (k : Known) → Agree r d ls env a k → (t : Term) → Stands r (l.level means ls a t) (walk.weigh means flags d env k t)
     stands r d ls env a k g (term (name n) ts p) =
-        stands-at-name r p (applied ls (means p)) (known env (means p)) (l.levels means ls a ts) (w.marked (flags (means p)) (w.weigh_each means flags d env k ts)) (knows-named r ls env (means p) g.1.0) (stands-each r d ls env a k g (flags (means p)) ts)
+        stands-at-name r p (applied ls (means p)) (known env (means p)) (l.levels means ls a ts) (w.marked (flags (means p)) (walk.weigh_each means flags d env k ts)) (knows-named r ls env (means p) g.1.0) (stands-each r d ls env a k g (flags (means p)) ts)
     stands r d ls env a k g (term (call n) ts p) =
-        stands-at-name r p (applied ls (means p)) (known env (means p)) (l.levels means ls a ts) (w.marked (flags (means p)) (w.weigh_each means flags d env k ts)) (knows-named r ls env (means p) g.1.0) (stands-each r d ls env a k g (flags (means p)) ts)
+        stands-at-name r p (applied ls (means p)) (known env (means p)) (l.levels means ls a ts) (w.marked (flags (means p)) (walk.weigh_each means flags d env k ts)) (knows-named r ls env (means p) g.1.0) (stands-each r d ls env a k g (flags (means p)) ts)
     stands r d ls env a k g (term box none p) = stands-fixed r 2 (0, []) w.nothing (stands-nothing r)
     stands r d ls env a k g (term box (part t ts) p) =
-        stands-action r p (l.level means ls a t) (l.overall (l.levels means ls a ts)) (w.weigh means flags d env k t) (w.all_primed (w.total (w.weigh_each means flags d env k ts))) (stands r d ls env a k g t)
-        (stands-if r true (l.overall (l.levels means ls a ts)) (w.total (w.weigh_each means flags d env k ts)) (stands-each r d ls env a k g [] ts).1)
+        stands-action r p (l.level means ls a t) (l.overall (l.levels means ls a ts)) (walk.weigh means flags d env k t) (w.all_primed (w.total (walk.weigh_each means flags d env k ts))) (stands r d ls env a k g t)
+        (stands-if r true (l.overall (l.levels means ls a ts)) (w.total (walk.weigh_each means flags d env k ts)) (stands-each r d ls env a k g [] ts).1)
     stands r d ls env a k g (term angle none p) = stands-fixed r 2 (0, []) w.nothing (stands-nothing r)
     stands r d ls env a k g (term angle (part t ts) p) =
-        stands-action r p (l.level means ls a t) (l.overall (l.levels means ls a ts)) (w.weigh means flags d env k t) (w.all_primed (w.total (w.weigh_each means flags d env k ts))) (stands r d ls env a k g t)
-        (stands-if r true (l.overall (l.levels means ls a ts)) (w.total (w.weigh_each means flags d env k ts)) (stands-each r d ls env a k g [] ts).1)
+        stands-action r p (l.level means ls a t) (l.overall (l.levels means ls a ts)) (walk.weigh means flags d env k t) (w.all_primed (w.total (walk.weigh_each means flags d env k ts))) (stands r d ls env a k g t)
+        (stands-if r true (l.overall (l.levels means ls a ts)) (w.total (walk.weigh_each means flags d env k ts)) (stands-each r d ls env a k g [] ts).1)
     stands r d ls env a k g (term at ts p) = stands-at-name r p (constantly a) k ([], []) [] g.1.1 (refl, stands-nothing r)
     stands r d ls env a k g (term (except us) none p) = stands-nothing r
-    stands r d ls env a k g (term (except us) (part t ts) p) = stands-updates r d ls env a k g (l.level means ls a t) (w.weigh means flags d env k t) (stands r d ls env a k g t) us
+    stands r d ls env a k g (term (except us) (part t ts) p) = stands-updates r d ls env a k g (l.level means ls a t) (walk.weigh means flags d env k t) (stands r d ls env a k g t) us
     stands r d ls env a k g (term (quantifier all gs) ts p) =
-        stands-beside r (l.sets means ls a gs) (l.overall (l.levels means ls a ts)) (w.sets means flags d env k gs) (w.total (w.weigh_each means flags d env k ts)) (stands-sets r d ls env a k g gs) (stands-each r d ls env a k g [] ts).1
+        stands-beside r (l.sets means ls a gs) (l.overall (l.levels means ls a ts)) (walk.sets means flags d env k gs) (w.total (walk.weigh_each means flags d env k ts)) (stands-sets r d ls env a k g gs) (stands-each r d ls env a k g [] ts).1
     stands r d ls env a k g (term (choice gs) ts p) =
-        stands-beside r (l.sets means ls a gs) (l.overall (l.levels means ls a ts)) (w.sets means flags d env k gs) (w.total (w.weigh_each means flags d env k ts)) (stands-sets r d ls env a k g gs) (stands-each r d ls env a k g [] ts).1
+        stands-beside r (l.sets means ls a gs) (l.overall (l.levels means ls a ts)) (walk.sets means flags d env k gs) (w.total (walk.weigh_each means flags d env k ts)) (stands-sets r d ls env a k g gs) (stands-each r d ls env a k g [] ts).1
     stands r d ls env a k g (term (local ds) ts p) =
         let ms = l.with_definitions means ls a ds in
-        let inner = w.with_definitions means flags d env k ds in
+        let inner = walk.with_definitions means flags d env k ds in
         let h : Agree r d ms inner a k = (g.0, (knows-definitions r d ls env a k g ds, g.1.1)) in
-        stands-beside r (0, l.bodies means ls a ds) (l.overall (l.levels means ms a ts)) (w.bodies means flags d env k ds) (w.total (w.weigh_each means flags d inner k ts)) (stands-bodies r d ls env a k g ds) (stands-each r d ms inner a k h [] ts).1
+        stands-beside r (0, l.bodies means ls a ds) (l.overall (l.levels means ms a ts)) (walk.bodies means flags d env k ds) (w.total (walk.weigh_each means flags d inner k ts)) (stands-bodies r d ls env a k g ds) (stands-each r d ms inner a k h [] ts).1
     stands r d ls env a k g (term prime ts p) =
         let j = l.overall (l.levels means ls a ts) in
-        let x = w.total (w.weigh_each means flags d env k ts) in
+        let x = w.total (walk.weigh_each means flags d env k ts) in
         stands-primed r p j (w.all_primed x) (stands-if r true j x (stands-each r d ls env a k g [] ts).1)
-    stands r d ls env a k g (term (prefixed o) ts p) = stands-prefix r o p (l.overall (l.levels means ls a ts)) (w.total (w.weigh_each means flags d env k ts)) (stands-each r d ls env a k g [] ts).1
+    stands r d ls env a k g (term (prefixed o) ts p) = stands-prefix r o p (l.overall (l.levels means ls a ts)) (w.total (walk.weigh_each means flags d env k ts)) (stands-each r d ls env a k g [] ts).1
     stands r d ls env a k g (term (infixed o) ts p) =
         let s = (stands-each r d ls env a k g [] ts).1 in
-        chosen r (is_word o (codes "~>")) _ _ _ _ (stands-fixed r 3 (l.overall (l.levels means ls a ts)) (w.total (w.weigh_each means flags d env k ts)) s) s
-    stands r d ls env a k g (term fair ts p) = stands-fixed r 3 (l.overall (l.levels means ls a ts)) (w.total (w.weigh_each means flags d env k ts)) (stands-each r d ls env a k g [] ts).1
+        chosen r (is_word o (codes "~>")) _ _ _ _ (stands-fixed r 3 (l.overall (l.levels means ls a ts)) (w.total (walk.weigh_each means flags d env k ts)) s) s
+    stands r d ls env a k g (term fair ts p) = stands-fixed r 3 (l.overall (l.levels means ls a ts)) (w.total (walk.weigh_each means flags d env k ts)) (stands-each r d ls env a k g [] ts).1
     stands r d ls env a k g (term s ts p) = (stands-each r d ls env a k g [] ts).1
 
-    stands-each : (r : List ℕ) (d : ℕ) (ls : Levels) (env : Env) (a : ℕ) (k : Known) → Agree r d ls env a k → (fs : List Bool) (ts : Terms) → StandEach r (l.levels means ls a ts) (w.marked fs (w.weigh_each means flags d env k ts))
+    stands-each : (r : List ℕ) (d : ℕ) (ls : Levels) (env : Env) (a : ℕ) (k : Known) → Agree r d ls env a k → (fs : List Bool) (ts : Terms) → StandEach r (l.levels means ls a ts) (w.marked fs (walk.weigh_each means flags d env k ts))
     stands-each r d ls env a k g [] none = (refl, stands-nothing r)
     stands-each r d ls env a k g (f ∷ fs) none = (refl, stands-nothing r)
     stands-each r d ls env a k g [] (part t ts) =
-        each-before r (l.level means ls a t) (l.levels means ls a ts) (w.weigh means flags d env k t) (w.weigh_each means flags d env k ts) (stands r d ls env a k g t) (stands-each r d ls env a k g [] ts)
+        each-before r (l.level means ls a t) (l.levels means ls a ts) (walk.weigh means flags d env k t) (walk.weigh_each means flags d env k ts) (stands r d ls env a k g t) (stands-each r d ls env a k g [] ts)
     stands-each r d ls env a k g (f ∷ fs) (part t ts) =
         let j = l.level means ls a t in
-        let x = w.weigh means flags d env k t in
-        each-before r j (l.levels means ls a ts) (w.primed_if f x) (w.marked fs (w.weigh_each means flags d env k ts)) (stands-if r f j x (stands r d ls env a k g t)) (stands-each r d ls env a k g fs ts)
+        let x = walk.weigh means flags d env k t in
+        each-before r j (l.levels means ls a ts) (w.primed_if f x) (w.marked fs (walk.weigh_each means flags d env k ts)) (stands-if r f j x (stands r d ls env a k g t)) (stands-each r d ls env a k g fs ts)
 
-    stands-sets : (r : List ℕ) (d : ℕ) (ls : Levels) (env : Env) (a : ℕ) (k : Known) → Agree r d ls env a k → (gs : Groups) → Stands r (l.sets means ls a gs) (w.sets means flags d env k gs)
+    stands-sets : (r : List ℕ) (d : ℕ) (ls : Levels) (env : Env) (a : ℕ) (k : Known) → Agree r d ls env a k → (gs : Groups) → Stands r (l.sets means ls a gs) (walk.sets means flags d env k gs)
     stands-sets r d ls env a k g end_groups = stands-nothing r
     stands-sets r d ls env a k g (free ds gs) = stands-sets r d ls env a k g gs
     stands-sets r d ls env a k g (within ds t gs) =
-        stands-beside r (l.level means ls a t) (l.sets means ls a gs) (w.weigh means flags d env k t) (w.sets means flags d env k gs) (stands r d ls env a k g t) (stands-sets r d ls env a k g gs)
+        stands-beside r (l.level means ls a t) (l.sets means ls a gs) (walk.weigh means flags d env k t) (walk.sets means flags d env k gs) (stands r d ls env a k g t) (stands-sets r d ls env a k g gs)
 
     stands-updates : (r : List ℕ) (d : ℕ) (ls : Levels) (env : Env) (a : ℕ) (k : Known) → Agree r d ls env a k → (j : Judged) (x : Weight) → Stands r j x → (us : Updates)
-        → Stands r (l.updates means ls a j us) (w.updates means flags d env k x us)
+        → Stands r (l.updates means ls a j us) (walk.updates means flags d env k x us)
     stands-updates r d ls env a k g j x s end_updates = s
     stands-updates r d ls env a k g j x s (update ks t us) =
         let i = l.beside j (l.keys means ls a ks) in
-        let y = w.join x (w.keys means flags d env k ks) in
-        let u = stands-beside r j (l.keys means ls a ks) x (w.keys means flags d env k ks) s (stands-keys r d ls env a k g ks) in
+        let y = w.join x (walk.keys means flags d env k ks) in
+        let u = stands-beside r j (l.keys means ls a ks) x (walk.keys means flags d env k ks) s (stands-keys r d ls env a k g ks) in
         let h : Agree r d ls env i.0 (result_so_far d y) = (g.0, (g.1.0, knows-result r d i y g.0 u)) in
-        stands-updates r d ls env a k g (l.beside i (l.level means ls i.0 t)) (w.join y (w.weigh means flags d env (result_so_far d y) t))
-        (stands-beside r i (l.level means ls i.0 t) y (w.weigh means flags d env (result_so_far d y) t) u (stands r d ls env i.0 (result_so_far d y) h t)) us
+        stands-updates r d ls env a k g (l.beside i (l.level means ls i.0 t)) (w.join y (walk.weigh means flags d env (result_so_far d y) t))
+        (stands-beside r i (l.level means ls i.0 t) y (walk.weigh means flags d env (result_so_far d y) t) u (stands r d ls env i.0 (result_so_far d y) h t)) us
 
-    stands-keys : (r : List ℕ) (d : ℕ) (ls : Levels) (env : Env) (a : ℕ) (k : Known) → Agree r d ls env a k → (ks : Keys) → Stands r (l.keys means ls a ks) (w.keys means flags d env k ks)
+    stands-keys : (r : List ℕ) (d : ℕ) (ls : Levels) (env : Env) (a : ℕ) (k : Known) → Agree r d ls env a k → (ks : Keys) → Stands r (l.keys means ls a ks) (walk.keys means flags d env k ks)
     stands-keys r d ls env a k g end_keys = stands-nothing r
     stands-keys r d ls env a k g (key t ks) =
-        stands-beside r (l.level means ls a t) (l.keys means ls a ks) (w.weigh means flags d env k t) (w.keys means flags d env k ks) (stands r d ls env a k g t) (stands-keys r d ls env a k g ks)
+        stands-beside r (l.level means ls a t) (l.keys means ls a ks) (walk.weigh means flags d env k t) (walk.keys means flags d env k ks) (stands r d ls env a k g t) (stands-keys r d ls env a k g ks)
     stands-keys r d ls env a k g (field_key h ks) = stands-keys r d ls env a k g ks
 
     knows-definitions : (r : List ℕ) (d : ℕ) (ls : Levels) (env : Env) (a : ℕ) (k : Known) → Agree r d ls env a k → (ds : Defs)
-        → KnowAll r (l.with_definitions means ls a ds) (w.with_definitions means flags d env k ds)
+        → KnowAll r (l.with_definitions means ls a ds) (walk.with_definitions means flags d env k ds)
     knows-definitions r d ls env a k g end_defs = g.1.0
     knows-definitions r d ls env a k g (def n ps t p ds) =
         let n = knows-next r d ls env a k g ps t (means p)
-        (λ args. stands (r ++ padded (length ps) args) (d + length ps) (l.with_parameters means ls ps args) (w.with_parameters means d env ps) a k (agree-inside r d ls env a k ps args g) t) in
+        (λ args. stands (r ++ padded (length ps) args) (d + length ps) (l.with_parameters means ls ps args) (walk.with_parameters means d env ps) a k (agree-inside r d ls env a k ps args g) t) in
         knows-definitions r d _ _ a k (g.0, (n, g.1.1)) ds
 
     stands-bodies : (r : List ℕ) (d : ℕ) (ls : Levels) (env : Env) (a : ℕ) (k : Known) → Agree r d ls env a k → (ds : Defs)
-        → Stands r (0, l.bodies means ls a ds) (w.bodies means flags d env k ds)
+        → Stands r (0, l.bodies means ls a ds) (walk.bodies means flags d env k ds)
     stands-bodies r d ls env a k g end_defs = stands-nothing r
     stands-bodies r d ls env a k g (def n ps t p ds) =
         let j = l.level means (l.with_parameters means ls ps []) a t in
-        let x = w.weigh means flags (d + length ps) (w.with_parameters means d env ps) k t in
+        let x = walk.weigh means flags (d + length ps) (walk.with_parameters means d env ps) k t in
         let f : Applied = λ args. told (l.level means (l.with_parameters means ls ps args) a t) in
         let ms = bind (means p) f ls in
-        let inner = bind (means p) (definition d (length ps) x) env in
+        let inner = with_local (means p) (definition d (length ps) x) env in
         let first = stands-round r d (length ps) j x g.0
-        (stands (r ++ padded (length ps) []) (d + length ps) (l.with_parameters means ls ps []) (w.with_parameters means d env ps) a k (agree-inside r d ls env a k ps [] g) t) in
+        (stands (r ++ padded (length ps) []) (d + length ps) (l.with_parameters means ls ps []) (walk.with_parameters means d env ps) a k (agree-inside r d ls env a k ps [] g) t) in
         let n = knows-next r d ls env a k g ps t (means p)
-        (λ args. stands (r ++ padded (length ps) args) (d + length ps) (l.with_parameters means ls ps args) (w.with_parameters means d env ps) a k (agree-inside r d ls env a k ps args g) t) in
-        stands-beside r (0, j.1) (0, l.bodies means ms a ds) (asked_round d x) (w.bodies means flags d inner k ds) first
+        (λ args. stands (r ++ padded (length ps) args) (d + length ps) (l.with_parameters means ls ps args) (walk.with_parameters means d env ps) a k (agree-inside r d ls env a k ps args g) t) in
+        stands-beside r (0, j.1) (0, l.bodies means ms a ds) (asked_round d x) (walk.bodies means flags d inner k ds) first
         (stands-bodies r d ms inner a k (g.0, (n, g.1.1)) ds)

@@ -1,5 +1,5 @@
 -- What weights say of how a parameter stands in an expression is so by the text.
-use Rattle.std.proofs.Common.{◌≡◌, ◌≢◌, ℕ, zero, suc, ◌+◌, ◌≤◌, ◌<◌, Bool, true, false, nat_eq, if◌then◌else◌, codes, List, [], ◌∷◌, ◌++◌, map, take, drop, length, get_or, Option, Some, None, refl, sym, ap, ◌∙◌, arith, append_assoc, append-nil}
+use Rattle.std.proofs.Common.{◌≡◌, ◌≢◌, ℕ, zero, suc, ◌+◌, ◌≤◌, ◌<◌, Bool, true, false, nat_eq, if◌then◌else◌, codes, List, [], ◌∷◌, ◌++◌, map, take, drop, length, get_or, Option, Some, None, refl, sym, ap, subst, ◌∙◌, arith, append_assoc, append-nil}
 use Rattle.tla_ast.specs.declared.place.Place.{Place}
 use Rattle.tla_ast.specs.declared.tree.Decl.{Decl}
 use Rattle.plain_syntax.specs.Plain.{Text, Term, Terms, Updates, Keys, Groups, Defs}
@@ -15,7 +15,10 @@ use Rattle.expression_level.specs.Levels.{bind, is_word}
 use Rattle.expression_level.specs.Primed as said
 use Rattle.expression_level.specs.Primed.{Occurrence, Holders, nowhere, here, beside, primed_if, is_holder, others, occurs, primed_parameters}
 use Rattle.expression_level.specs.Weights as w
-use Rattle.expression_level.specs.Weights.{Weight, Known, Env, both, stricter, all_uses, join, total, kept, fixed, capped_use, raised_use, limited, lifted, primed_use, all_primed, named, passed, put, unlimited, unused, uses_of, parameter, depth_of, at_name, marked, known, result_so_far, asked_round, with_parameters, weigh, primed_first}
+use Rattle.expression_level.specs.Scope as walk
+use Rattle.expression_level.specs.Scope.{Env, at_number, known, with_local, with_parameters, weigh}
+use Rattle.expression_level.proofs.Locals.{at-bound}
+use Rattle.expression_level.specs.Weights.{Weight, Known, both, stricter, all_uses, join, total, kept, fixed, capped_use, raised_use, limited, lifted, primed_use, all_primed, named, passed, put, unlimited, unused, uses_of, parameter, depth_of, at_name, marked, result_so_far, asked_round, primed_first}
 use Rattle.expression_level.specs.Weights.Known.{arguments, defined}
 use Rattle.expression_level.proofs.Evaluation.{or-false}
 
@@ -122,13 +125,13 @@ module _ (i : ℕ) where
   -- ---- what all numbers hold
 
   abbrev HoldAll : Holders → Env → Type 0
-  HoldAll hs env = (n : ℕ) → Holds (env n) (hs n)
+  HoldAll hs env = (n : ℕ) → Holds (at_number env n) (hs n)
 
-  hold-bound : (hs : Holders) (env : Env) (o : Option ℕ) (b : Bool) (k : Known) → HoldAll hs env → Holds k b → HoldAll (bind o b hs) (bind o k env)
+  hold-bound : (hs : Holders) (env : Env) (o : Option ℕ) (b : Bool) (k : Known) → HoldAll hs env → Holds k b → HoldAll (bind o b hs) (with_local o k env)
   hold-bound hs env None b k a h = a
-  hold-bound hs env (Some m) b k a h = λ q. by-test q (nat_eq m q)
+  hold-bound hs env (Some m) b k a h = λ q. subst (λ j. Holds j (bind (Some m) b hs q)) (sym (at-bound env m k q)) (by-test q (nat_eq m q))
     where
-      by-test : (q : ℕ) (t : Bool) → Holds (if t then k else env q) (if t then b else hs q)
+      by-test : (q : ℕ) (t : Bool) → Holds (if t then k else at_number env q) (if t then b else hs q)
       by-test q true = h
       by-test q false = a q
 
@@ -136,7 +139,7 @@ module _ (i : ℕ) where
   holds-named hs env None a = refl
   holds-named hs env (Some n) a = a n
 
-  hold-next : (d : ℕ) (hs : Holders) (env : Env) (o : Option ℕ) (n : ℕ) (x : Weight) (q : Occurrence) → i < d → HoldAll hs env → Sees x q → HoldAll (bind o q.held hs) (bind o (w.definition d n x) env)
+  hold-next : (d : ℕ) (hs : Holders) (env : Env) (o : Option ℕ) (n : ℕ) (x : Weight) (q : Occurrence) → i < d → HoldAll hs env → Sees x q → HoldAll (bind o q.held hs) (with_local o (w.definition d n x) env)
   hold-next d hs env o n x q h a s =
       hold-bound hs env o q.held (w.definition d n x) a (ap (λ z. z.held) (seen-take i d (take (d + n) x.uses) h ∙ seen-take i (d + n) x.uses (omega (arith, h)) ∙ s))
 
@@ -144,90 +147,90 @@ module _ (i : ℕ) where
     hold-others : (ps : List Decl) (d : ℕ) (hs : Holders) (env : Env) → i < d → HoldAll hs env → HoldAll (others means ps hs) (with_parameters means d env ps)
     hold-others [] d hs env h a = a
     hold-others (q ∷ ps) d hs env h a =
-        hold-others ps (suc d) (bind (means q.place) false hs) (bind (means q.place) (parameter d) env) (omega (arith, h))
+        hold-others ps (suc d) (bind (means q.place) false hs) (with_local (means q.place) (parameter d) env) (omega (arith, h))
         (hold-bound hs env (means q.place) false (parameter d) a (ap (λ x. x.held) (seen-other d i (λ e. omega (arith, h, e)))))
 
   module _ (means : Place → Option ℕ) (flags : Option ℕ → List Bool) where
     mutual
       pub sees : (d : ℕ) (hs : Holders) (env : Env) (b : Bool) (k : Known) → i < d → HoldAll hs env → Holds k b → (t : Term) → Sees (weigh means flags d env k t) (occurs means flags hs b t)
       sees d hs env b k h a g (term (name n) ts p) =
-          sees-name p (known env (means p)) (is_holder hs (means p)) (marked (flags (means p)) (w.weigh_each means flags d env k ts)) _ (holds-named hs env (means p) a) (sees-each d hs env b k h a g (flags (means p)) ts)
+          sees-name p (known env (means p)) (is_holder hs (means p)) (marked (flags (means p)) (walk.weigh_each means flags d env k ts)) _ (holds-named hs env (means p) a) (sees-each d hs env b k h a g (flags (means p)) ts)
       sees d hs env b k h a g (term (call n) ts p) =
-          sees-name p (known env (means p)) (is_holder hs (means p)) (marked (flags (means p)) (w.weigh_each means flags d env k ts)) _ (holds-named hs env (means p) a) (sees-each d hs env b k h a g (flags (means p)) ts)
+          sees-name p (known env (means p)) (is_holder hs (means p)) (marked (flags (means p)) (walk.weigh_each means flags d env k ts)) _ (holds-named hs env (means p) a) (sees-each d hs env b k h a g (flags (means p)) ts)
       sees d hs env b k h a g (term prime ts p) =
-          let x = total (w.weigh_each means flags d env k ts) in
+          let x = total (walk.weigh_each means flags d env k ts) in
           sees-lifted (limited 1 p (all_primed x)) _ (sees-limited 1 p (all_primed x) _ (sees-primed true x _ (sees-each d hs env b k h a g [] ts)))
-      sees d hs env b k h a g (term (prefixed o) ts p) = sees-prefix p (total (w.weigh_each means flags d env k ts)) _ (is_word o (codes "UNCHANGED")) _ _ (sees-each d hs env b k h a g [] ts)
-      sees d hs env b k h a g (term (infixed o) ts p) = sees-infix (total (w.weigh_each means flags d env k ts)) _ (is_word o (codes "~>")) (sees-each d hs env b k h a g [] ts)
-      sees d hs env b k h a g (term fair ts p) = sees-fixed 3 (total (w.weigh_each means flags d env k ts)) _ (sees-each d hs env b k h a g [] ts)
+      sees d hs env b k h a g (term (prefixed o) ts p) = sees-prefix p (total (walk.weigh_each means flags d env k ts)) _ (is_word o (codes "UNCHANGED")) _ _ (sees-each d hs env b k h a g [] ts)
+      sees d hs env b k h a g (term (infixed o) ts p) = sees-infix (total (walk.weigh_each means flags d env k ts)) _ (is_word o (codes "~>")) (sees-each d hs env b k h a g [] ts)
+      sees d hs env b k h a g (term fair ts p) = sees-fixed 3 (total (walk.weigh_each means flags d env k ts)) _ (sees-each d hs env b k h a g [] ts)
       sees d hs env b k h a g (term box none p) = refl
-      sees d hs env b k h a g (term box (part t ts) p) = sees-action p (weigh means flags d env k t) (total (w.weigh_each means flags d env k ts)) _ _ (sees d hs env b k h a g t) (sees-each d hs env b k h a g [] ts)
+      sees d hs env b k h a g (term box (part t ts) p) = sees-action p (weigh means flags d env k t) (total (walk.weigh_each means flags d env k ts)) _ _ (sees d hs env b k h a g t) (sees-each d hs env b k h a g [] ts)
       sees d hs env b k h a g (term angle none p) = refl
-      sees d hs env b k h a g (term angle (part t ts) p) = sees-action p (weigh means flags d env k t) (total (w.weigh_each means flags d env k ts)) _ _ (sees d hs env b k h a g t) (sees-each d hs env b k h a g [] ts)
+      sees d hs env b k h a g (term angle (part t ts) p) = sees-action p (weigh means flags d env k t) (total (walk.weigh_each means flags d env k ts)) _ _ (sees d hs env b k h a g t) (sees-each d hs env b k h a g [] ts)
       sees d hs env b k h a g (term at ts p) = sees-name p k b [] nowhere g refl
       sees d hs env b k h a g (term (except us) none p) = refl
       sees d hs env b k h a g (term (except us) (part t ts) p) = sees-updates d hs env b k h a g (weigh means flags d env k t) _ (sees d hs env b k h a g t) us
-      sees d hs env b k h a g (term (quantifier all gs) ts p) = sees-join (w.sets means flags d env k gs) (total (w.weigh_each means flags d env k ts)) _ _ (sees-sets d hs env b k h a g gs) (sees-each d hs env b k h a g [] ts)
-      sees d hs env b k h a g (term (choice gs) ts p) = sees-join (w.sets means flags d env k gs) (total (w.weigh_each means flags d env k ts)) _ _ (sees-sets d hs env b k h a g gs) (sees-each d hs env b k h a g [] ts)
+      sees d hs env b k h a g (term (quantifier all gs) ts p) = sees-join (walk.sets means flags d env k gs) (total (walk.weigh_each means flags d env k ts)) _ _ (sees-sets d hs env b k h a g gs) (sees-each d hs env b k h a g [] ts)
+      sees d hs env b k h a g (term (choice gs) ts p) = sees-join (walk.sets means flags d env k gs) (total (walk.weigh_each means flags d env k ts)) _ _ (sees-sets d hs env b k h a g gs) (sees-each d hs env b k h a g [] ts)
       sees d hs env b k h a g (term (local ds) ts p) =
-          sees-join (w.bodies means flags d env k ds) (total (w.weigh_each means flags d (w.with_definitions means flags d env k ds) k ts)) _ _ (sees-bodies d hs env b k h a g ds)
-          (sees-each d (said.with_definitions means flags hs b ds) (w.with_definitions means flags d env k ds) b k h (hold-definitions d hs env b k h a g ds) g [] ts)
+          sees-join (walk.bodies means flags d env k ds) (total (walk.weigh_each means flags d (walk.with_definitions means flags d env k ds) k ts)) _ _ (sees-bodies d hs env b k h a g ds)
+          (sees-each d (said.with_definitions means flags hs b ds) (walk.with_definitions means flags d env k ds) b k h (hold-definitions d hs env b k h a g ds) g [] ts)
       sees d hs env b k h a g (term s ts p) = sees-each d hs env b k h a g [] ts
 
       sees-each : (d : ℕ) (hs : Holders) (env : Env) (b : Bool) (k : Known) → i < d → HoldAll hs env → Holds k b → (fs : List Bool) (ts : Terms)
-          → Sees (total (marked fs (w.weigh_each means flags d env k ts))) (said.in_each means flags hs b fs ts)
+          → Sees (total (marked fs (walk.weigh_each means flags d env k ts))) (said.in_each means flags hs b fs ts)
       sees-each d hs env b k h a g [] none = refl
       sees-each d hs env b k h a g (f ∷ fs) none = refl
       sees-each d hs env b k h a g [] (part t ts) =
-          sees-join (weigh means flags d env k t) (total (w.weigh_each means flags d env k ts)) _ _ (sees d hs env b k h a g t) (sees-each d hs env b k h a g [] ts)
+          sees-join (weigh means flags d env k t) (total (walk.weigh_each means flags d env k ts)) _ _ (sees d hs env b k h a g t) (sees-each d hs env b k h a g [] ts)
       sees-each d hs env b k h a g (f ∷ fs) (part t ts) =
           let x = weigh means flags d env k t in
-          sees-join (if f then all_primed x else x) (total (marked fs (w.weigh_each means flags d env k ts))) _ _ (sees-primed f x _ (sees d hs env b k h a g t)) (sees-each d hs env b k h a g fs ts)
+          sees-join (if f then all_primed x else x) (total (marked fs (walk.weigh_each means flags d env k ts))) _ _ (sees-primed f x _ (sees d hs env b k h a g t)) (sees-each d hs env b k h a g fs ts)
 
-      sees-sets : (d : ℕ) (hs : Holders) (env : Env) (b : Bool) (k : Known) → i < d → HoldAll hs env → Holds k b → (gs : Groups) → Sees (w.sets means flags d env k gs) (said.in_sets means flags hs b gs)
+      sees-sets : (d : ℕ) (hs : Holders) (env : Env) (b : Bool) (k : Known) → i < d → HoldAll hs env → Holds k b → (gs : Groups) → Sees (walk.sets means flags d env k gs) (said.in_sets means flags hs b gs)
       sees-sets d hs env b k h a g end_groups = refl
       sees-sets d hs env b k h a g (free ds gs) = sees-sets d hs env b k h a g gs
-      sees-sets d hs env b k h a g (within ds t gs) = sees-join (weigh means flags d env k t) (w.sets means flags d env k gs) _ _ (sees d hs env b k h a g t) (sees-sets d hs env b k h a g gs)
+      sees-sets d hs env b k h a g (within ds t gs) = sees-join (weigh means flags d env k t) (walk.sets means flags d env k gs) _ _ (sees d hs env b k h a g t) (sees-sets d hs env b k h a g gs)
 
       sees-updates : (d : ℕ) (hs : Holders) (env : Env) (b : Bool) (k : Known) → i < d → HoldAll hs env → Holds k b → (x : Weight) (o : Occurrence) → Sees x o → (us : Updates)
-          → Sees (w.updates means flags d env k x us) (said.in_updates means flags hs b o us)
+          → Sees (walk.updates means flags d env k x us) (said.in_updates means flags hs b o us)
       sees-updates d hs env b k h a g x o s end_updates = s
       sees-updates d hs env b k h a g x o s (update ks t us) =
-          let y = join x (w.keys means flags d env k ks) in
+          let y = join x (walk.keys means flags d env k ks) in
           let q = beside o (said.in_keys means flags hs b ks) in
-          let u : Sees y q = sees-join x (w.keys means flags d env k ks) o (said.in_keys means flags hs b ks) s (sees-keys d hs env b k h a g ks) in
+          let u : Sees y q = sees-join x (walk.keys means flags d env k ks) o (said.in_keys means flags hs b ks) s (sees-keys d hs env b k h a g ks) in
           let at : Holds (result_so_far d y) q.held =
           ap (λ z. z.held) (seen-take i d (map unlimited (take d y.uses)) h ∙ seen-same unlimited (λ v. refl) i (take d y.uses) ∙ seen-take i d y.uses h ∙ u) in
           let v = weigh means flags d env (result_so_far d y) t in
           sees-updates d hs env b k h a g (join y v) (beside q (occurs means flags hs q.held t)) (sees-join y v q _ u (sees d hs env q.held (result_so_far d y) h a at t)) us
 
-      sees-keys : (d : ℕ) (hs : Holders) (env : Env) (b : Bool) (k : Known) → i < d → HoldAll hs env → Holds k b → (ks : Keys) → Sees (w.keys means flags d env k ks) (said.in_keys means flags hs b ks)
+      sees-keys : (d : ℕ) (hs : Holders) (env : Env) (b : Bool) (k : Known) → i < d → HoldAll hs env → Holds k b → (ks : Keys) → Sees (walk.keys means flags d env k ks) (said.in_keys means flags hs b ks)
       sees-keys d hs env b k h a g end_keys = refl
-      sees-keys d hs env b k h a g (key t ks) = sees-join (weigh means flags d env k t) (w.keys means flags d env k ks) _ _ (sees d hs env b k h a g t) (sees-keys d hs env b k h a g ks)
+      sees-keys d hs env b k h a g (key t ks) = sees-join (weigh means flags d env k t) (walk.keys means flags d env k ks) _ _ (sees d hs env b k h a g t) (sees-keys d hs env b k h a g ks)
       sees-keys d hs env b k h a g (field_key x ks) = sees-keys d hs env b k h a g ks
 
       hold-definitions : (d : ℕ) (hs : Holders) (env : Env) (b : Bool) (k : Known) → i < d → HoldAll hs env → Holds k b → (ds : Defs)
-          → HoldAll (said.with_definitions means flags hs b ds) (w.with_definitions means flags d env k ds)
+          → HoldAll (said.with_definitions means flags hs b ds) (walk.with_definitions means flags d env k ds)
       hold-definitions d hs env b k h a g end_defs = a
       hold-definitions d hs env b k h a g (def n ps t p ds) =
           let x = weigh means flags (d + length ps) (with_parameters means d env ps) k t in
           let s = sees (d + length ps) (others means ps hs) (with_parameters means d env ps) b k (omega (arith, h)) (hold-others means ps d hs env h a) g t in
           hold-definitions d _ _ b k h (hold-next d hs env (means p) (length ps) x _ h a s) g ds
 
-      sees-bodies : (d : ℕ) (hs : Holders) (env : Env) (b : Bool) (k : Known) → i < d → HoldAll hs env → Holds k b → (ds : Defs) → Sees (w.bodies means flags d env k ds) (said.in_bodies means flags hs b ds)
+      sees-bodies : (d : ℕ) (hs : Holders) (env : Env) (b : Bool) (k : Known) → i < d → HoldAll hs env → Holds k b → (ds : Defs) → Sees (walk.bodies means flags d env k ds) (said.in_bodies means flags hs b ds)
       sees-bodies d hs env b k h a g end_defs = refl
       sees-bodies d hs env b k h a g (def n ps t p ds) =
           let x = weigh means flags (d + length ps) (with_parameters means d env ps) k t in
           let s = sees (d + length ps) (others means ps hs) (with_parameters means d env ps) b k (omega (arith, h)) (hold-others means ps d hs env h a) g t in
-          let inner = bind (means p) (w.definition d (length ps) x) env in
-          sees-join (asked_round d x) (w.bodies means flags d inner k ds) _ _ (seen-same kept (λ u. refl) i (take d x.uses) ∙ seen-take i d x.uses h ∙ s)
+          let inner = with_local (means p) (w.definition d (length ps) x) env in
+          sees-join (asked_round d x) (walk.bodies means flags d inner k ds) _ _ (seen-same kept (λ u. refl) i (take d x.uses) ∙ seen-take i d x.uses h ∙ s)
           (sees-bodies d _ _ b k h (hold-next d hs env (means p) (length ps) x _ h a s) g ds)
 
 -- ---- one parameter after another
 
 -- nothing holds a parameter at this position or behind it
 abbrev pub Blank : ℕ → Env → Type 0
-Blank i env = (j n : ℕ) → i ≤ j → (seen j (round (env n))).held ≡ false
+Blank i env = (j n : ℕ) → i ≤ j → (seen j (round (at_number env n))).held ≡ false
 
 pub blank-closed : (k : Known) (j : ℕ) → depth_of k ≡ 0 → (seen j (round k)).held ≡ false
 blank-closed arguments j e = refl
@@ -241,7 +244,7 @@ module _ (means : Place → Option ℕ) (flags : Option ℕ → List Bool) (k : 
       plus : (i : ℕ) → i + 0 ≡ i
       plus i = omega arith
   primed-next us i (q ∷ ps) env c a e =
-      let next = bind (means q.place) (parameter i) env in
+      let next = with_local (means q.place) (parameter i) env in
       let f = e ∙ ap (λ m. (weigh means flags m (with_parameters means (suc i) next ps) k t).uses) (plus i (length ps)) in
       let one = hold-bound i (λ n. false) env (means q.place) true (parameter i) (λ n. a i n (omega arith)) (ap (λ x. x.held) (seen-own i)) in
       let head = ap (seen i) f ∙ sees i means flags (suc i + length ps) _ _ false k (omega arith) (hold-others i means ps (suc i) (bind (means q.place) true (λ n. false)) next (omega arith) one) (blank-closed k i c) t in
@@ -261,6 +264,6 @@ module _ (means : Place → Option ℕ) (flags : Option ℕ → List Bool) (k : 
           by-test true = refl
           by-test false = refl
 
-      blank : (i : ℕ) (env : Env) (o : Option ℕ) → Blank i env → Blank (suc i) (bind o (parameter i) env)
+      blank : (i : ℕ) (env : Env) (o : Option ℕ) → Blank i env → Blank (suc i) (with_local o (parameter i) env)
       blank i env o a j n h =
           hold-bound j (λ m. false) env o false (parameter i) (λ m. a j m (omega (arith, h))) (ap (λ x. x.held) (seen-other i j (λ e. omega (arith, h, e)))) n ∙ never o n

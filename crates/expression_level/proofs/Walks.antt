@@ -25,12 +25,9 @@ use Rattle.plain_syntax.specs.Plain.{Shape as s}
 use Rattle.plain_syntax.specs.Syntax.{Held, shape_of, key_of, def_of, group_of, node_of, path_of, term_of, terms_of, keys_of, key_keys, each_key, groups_of, each_group, each_def, with_domain, set_of, except_of}
 use Rattle.plain_syntax.specs.Order.{order, orders, joined_by, joins}
 use Rattle.plain_syntax.proofs.Forms.{held, by-form, parts_in, is-name, is-call, is-box, is-angle, is-at, is-except, is-quantifier, is-choice, is-local, is-path, is-key, is-field-key, is-group, is-def}
-use Rattle.expression_level.specs.Weights.{Weight, Known, weigh_each, join, total, nothing, at_name, form_weight, result_so_far, asked_round}
-use Rattle.expression_level.specs.Scope.{Names, applied, weight_of, weights_of, turned, count, ruled, by_form, acted, updates_on, excepted, sets_of, keys_on, bodies_of, domain_weight, with_definition, with_definitions, body_weight}
+use Rattle.expression_level.specs.Weights.{Weight, Known, join, total, nothing, at_name, form_weight, result_so_far, asked_round}
+use Rattle.expression_level.specs.Scope.{Names, applied, weight_of, weights_of, turned, count, ruled, by_form, acted, updates_on, excepted, sets_of, keys_on, bodies_of, domain_weight, with_definition, with_all, body_weight}
 use Rattle.expression_level.proofs.Uses.{join-assoc, nothing-joined, joined-nothing}
-use Rattle.expression_level.proofs.Locals.{bodies-next, same-with-definitions, env-with-definitions}
-use Rattle.symbol_table.specs.Symbols.{symbol_at}
-use Rattle.expression_level.specs.Store.{flags_of}
 
 -- ---- operators, one after another
 
@@ -278,11 +275,9 @@ module _ (c : Names) (d : ℕ) (k : Known) where
   -- ---- definitions
 
   pub weighs-let : (n : Node) (ds : List Def) → (out-Node n).form ≡ form.Let ds
-      → weight_of c d k (term_of n) ≡ join (bodies_of c d k (each_def ds)) (total (weights_of (with_definitions d k (each_def ds) c) d k (parts_in n)))
+      → weight_of c d k (term_of n) ≡ join (bodies_of c d k (each_def ds)) (total (weights_of (with_all d k (each_def ds) c) d k (parts_in n)))
   weighs-let n ds e =
       ap (weight_of c d k) (is-local n ds e)
-      ∙ ap (λ ws. join (bodies_of c d k (each_def ds)) (total ws))
-      (sym (λ i. weigh_each (symbol_at ((same-with-definitions d k (each_def ds) c).0 i)) (flags_of ((same-with-definitions d k (each_def ds) c).1 i)) d (env-with-definitions d k (each_def ds) c i) k (parts_in n)))
 
   -- ---- all other forms
 
@@ -323,15 +318,15 @@ bodies-step d k all now next x s t ds rest y h e f w a =
     ap (λ z. join z (bodies_of t d k (each_def rest))) (a ∙ ap (join now) w)
     ∙ ap (λ z. join (join now b) (bodies_of z d k (each_def rest))) f
     ∙ join-assoc now b (bodies_of u d k (each_def rest))
-    ∙ ap (join now) (sym (ap (λ (g : Defs → Defs). bodies_of s d k (g (each_def rest))) (is-def y) ∙ bodies-next d k (out-Def y).name (out-Def y).params (term_of (out-Def y).body) (out-Def y).place (each_def rest) s))
+    ∙ ap (join now) (sym (ap (λ (g : Defs → Defs). bodies_of s d k (g (each_def rest))) (is-def y)))
     ∙ ap (λ l. join now (bodies_of s d k (each_def l))) (sym e) ∙ h
 
-pub known-step : (d : ℕ) (k : Known) (all s t : Names) (ds rest : List Def) (y : Def) → with_definitions d k (each_def ds) s ≡ all → ds ≡ y ∷ rest
-    → t ≡ with_definition d k (out-Def y).params (term_of (out-Def y).body) (out-Def y).place s → with_definitions d k (each_def rest) t ≡ all
+pub known-step : (d : ℕ) (k : Known) (all s t : Names) (ds rest : List Def) (y : Def) → with_all d k (each_def ds) s ≡ all → ds ≡ y ∷ rest
+    → t ≡ with_definition d k (out-Def y).params (term_of (out-Def y).body) (out-Def y).place s → with_all d k (each_def rest) t ≡ all
 known-step d k all s t ds rest y h e f =
-    ap (with_definitions d k (each_def rest)) f
-    ∙ sym (ap (λ (g : Defs → Defs). with_definitions d k (g (each_def rest)) s) (is-def y))
-    ∙ ap (λ l. with_definitions d k (each_def l) s) (sym e) ∙ h
+    ap (with_all d k (each_def rest)) f
+    ∙ sym (ap (λ (g : Defs → Defs). with_all d k (g (each_def rest)) s) (is-def y))
+    ∙ ap (λ l. with_all d k (each_def l) s) (sym e) ∙ h
 
 -- ---- results and lists
 

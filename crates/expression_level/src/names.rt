@@ -34,7 +34,7 @@ impl<'a> Model for Names<'a> {
 
     ghost Value = { Seen };
 
-    ghost view = { λ s. record { symbols = s.symbols.now; entries = s.entries.now; declared = s.declared.now; locals = s.locals.items } };
+    ghost view = { λ s. record { symbols = s.symbols.now; entries = s.entries.now; env = record { declared = s.declared.now; locals = s.locals.items } } };
 }
 
 impl<'a> Names<'a> {
@@ -63,7 +63,7 @@ impl<'a> Names<'a> {
 
     /// What the newest parameter or definition of a number has.
     fn local(&self, number: u64) -> Option<&Known>
-        ensures { spec.newest result ≡ spec.local self.now.locals number }
+        ensures { spec.found_local result ≡ spec.newest self.now.env.locals number }
     {
         let mut left = self.locals.len();
         while left > 0 {
@@ -78,7 +78,7 @@ impl<'a> Names<'a> {
 
     /// What the name at a place has, if it is known.
     pub fn at(&self, place: Place) -> Option<&Known>
-        ensures { found result ≡ spec.at self.now place }
+        ensures { found result ≡ spec.at_place self.now place }
     {
         let number = self.symbols.at(place)?;
         match self.local(number) {
@@ -112,7 +112,7 @@ impl<'a> Names<'a> {
 
     /// How many parameters and definitions there are.
     pub fn mark(&self) -> usize
-        ensures { result ≡ length self.now.locals }
+        ensures { result ≡ length self.now.env.locals }
     {
         self.locals.len()
     }
@@ -126,7 +126,7 @@ impl<'a> Names<'a> {
 
     /// The parameters of a definition, which stand for themselves, behind so many others. Answers how many there are then.
     pub fn bind_parameters(&mut self, depth: usize, params: &[Decl]) -> Result<usize, Memory>
-        ensures bound { OnOk result (self.new ≡ spec.with_parameters depth params.now self.old) }
+        ensures bound { OnOk result (self.new ≡ spec.with_more depth params.now self.old) }
         ensures depth { IfOk result (λ inner. inner ≡ depth + length params.now) }
     {
         let mut inner = depth;

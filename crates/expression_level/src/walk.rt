@@ -279,7 +279,7 @@ fn definition(names: &mut Names, depth: usize, at: &Known, def: &Def) -> Result<
 /// The definitions of a LET.
 #[cycle(weigh)]
 fn definitions(names: &mut Names, depth: usize, at: &Known, defs: &[Def]) -> Result<Weight, Memory>
-    ensures known { OnOk result (names.new ≡ spec.with_definitions depth at.now (each_def defs.now) names.old) }
+    ensures known { OnOk result (names.new ≡ spec.with_all depth at.now (each_def defs.now) names.old) }
     ensures weight { IfOk result (λ weight. weight ≡ spec.bodies_of names.old depth at.now (each_def defs.now)) }
 {
     let mut all = Weight::nothing(names.alloc());

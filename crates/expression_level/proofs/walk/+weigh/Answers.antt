@@ -7,9 +7,9 @@ use Rattle.plain_syntax.specs.Syntax.{term_of, terms_of, each_group, each_key, e
 use Rattle.expression_level.specs.Levels.{has_fault}
 use Rattle.expression_level.specs.Weights.{at_name, join, total, subscripted, asked_round}
 use Rattle.expression_level.specs.Weights.Known.{defined}
-use Rattle.expression_level.specs.Scope.{turned, weight_of, weights_of, sets_of, keys_on, bodies_of, updates_on, domain_weight, by_form, acted, left, with_name, with_parameters, with_definitions}
+use Rattle.expression_level.specs.Scope.{turned, weight_of, weights_of, sets_of, keys_on, bodies_of, updates_on, domain_weight, by_form, acted, left, with_name, with_more, with_all}
 use Rattle.expression_level.proofs.Uses.{joined-nothing}
-use Rattle.expression_level.proofs.Locals.{definitions-left, parameters-left, weigh-with-parameters}
+use Rattle.expression_level.proofs.Locals.{definitions-left, parameters-left}
 use Rattle.expression_level.proofs.Walks.{in-order, turns-operator, turns-leaf, turn-next, weighs-name, weighs-call, weighs-box, weighs-angle, weighs-at, weighs-quant, weighs-choose, weighs-let, weighs-plain, sets-next, keys-next, weighs-key, weighs-field-key, each-next, updates-next, no-more-values, except-begins, except-empty, bodies-step, known-step, next-one, all-past, last-one, because, in-any-case}
 use Rattle.expression_level.proofs.walk.+weigh.Goals as goal
 
@@ -108,7 +108,7 @@ pub leaf-returns-in_ok-all-in-Let-clause-weight : goal.leaf-returns-in_ok-all-in
 leaf-returns-in_ok-all-in-Let-clause-weight t c =
     let n = c.args.names.now in let d = c.args.depth in let k = c.args.at.now in
     let s = c.in_ok-before-in-Let.ensures.weight ∙ ap (λ l. bodies_of n d k (each_def l)) c.as_slice-in-Let.ensures in
-    let m = c.in_ok-before-in-Let.ensures.known ∙ ap (λ l. with_definitions d k (each_def l) n) c.as_slice-in-Let.ensures in
+    let m = c.in_ok-before-in-Let.ensures.known ∙ ap (λ l. with_all d k (each_def l) n) c.as_slice-in-Let.ensures in
     c.in_ok-all-in-Let.ensures.weight
     ∙ (λ i. join (s i) (total (weights_of (m i) d k (terms_of (map term_of (out-Node c.args.node.now).parts)))))
     ∙ sym (weighs-let n d k c.args.node.now _ c.in-Let.is)
@@ -260,16 +260,16 @@ definitions-returns t c =
     let d = c.args.depth in let k = c.args.at.now in
     let end = sym (all-past c.args.defs.now c.loop-def.def-index c.loop-def-test.false) in
     record {
-      known = ap (λ l. with_definitions d k (each_def l) c.loop-def.names) end ∙ c.loop-def.invariant.known;
+      known = ap (λ l. with_all d k (each_def l) c.loop-def.names) end ∙ c.loop-def.invariant.known;
       weight = sym (joined-nothing c.loop-def.all) ∙ ap (λ l. join c.loop-def.all (bodies_of c.loop-def.names d k (each_def l))) end ∙ c.loop-def.invariant.rest;
     }
 
 pub definition-returns : goal.definition-returns
 definition-returns t c =
     let n = c.args.names.now in let d = c.args.depth in let k = c.args.at.now in let x = out-Def c.args.def.now in
-    let bound = c.in_ok-inner.ensures.bound ∙ ap (λ l. with_parameters d l n) c.as_slice.ensures in
+    let bound = c.in_ok-inner.ensures.bound ∙ ap (λ l. with_more d l n) c.as_slice.ensures in
     let inner = c.in_ok-inner.ensures.depth ∙ ap (λ l. d + length l) c.as_slice.ensures in
-    let body = c.in_ok-body.ensures.weight ∙ (λ i. weight_of (bound i) (inner i) k (term_of (c.get.ensures i))) ∙ weigh-with-parameters d x.params n k (term_of x.body) in
+    let body = c.in_ok-body.ensures.weight ∙ (λ i. weight_of (bound i) (inner i) k (term_of (c.get.ensures i))) in
     let before = c.leave.ensures ∙ (λ i. left (c.mark-mark.ensures i) ((c.in_ok-body.ensures.same ∙ bound) i)) ∙ parameters-left d x.params n in
     let known = c.in_ok-known.ensures.known ∙ (λ i. defined d (body i).least (take (inner i) (body i).uses) (has_fault (body i).faults)) in
     record {

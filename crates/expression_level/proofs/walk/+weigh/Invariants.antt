@@ -2,7 +2,7 @@ use Rattle.std.proofs.Common.{◌≡◌, ◌+◌, ◌*◌, ◌++◌, [], ◌∷�
 use Rattle.tla_ast.specs.declared.tree.Path.{out-Path}
 use Rattle.plain_syntax.specs.Syntax.{term_of, terms_of, each_group, each_key, each_def}
 use Rattle.expression_level.specs.Weights.{join}
-use Rattle.expression_level.specs.Scope.{turned, weight_of, weights_of, sets_of, keys_on, bodies_of, with_definitions, updates_on}
+use Rattle.expression_level.specs.Scope.{turned, weight_of, weights_of, sets_of, keys_on, bodies_of, with_all, updates_on}
 use Rattle.expression_level.proofs.walk.+weigh.Given as goal
 
 abbrev pub invariant-weigh-loop-next : goal.invariant-weigh-loop-next
@@ -31,7 +31,7 @@ invariant-keys-loop-part l = record {
 
 abbrev pub invariant-definitions-loop-def : goal.invariant-definitions-loop-def
 invariant-definitions-loop-def l = record {
-  known : with_definitions l.depth l.at (each_def (drop l.def-index l.defs)) l.names ≡ with_definitions l.depth l.at (each_def l.defs) l.fn.names;
+  known : with_all l.depth l.at (each_def (drop l.def-index l.defs)) l.names ≡ with_all l.depth l.at (each_def l.defs) l.fn.names;
   rest : join l.all (bodies_of l.names l.depth l.at (each_def (drop l.def-index l.defs))) ≡ bodies_of l.fn.names l.depth l.at (each_def l.defs);
 }
 
