@@ -21,16 +21,11 @@ use Rattle.expression_level.proofs.Linear.{Agree, agree-inside, stands, knows-de
 abbrev pub at_first : Known
 at_first = defined 0 0 [] false
 
-closed-at : (ks : List Known) (n : ℕ) → AllClosed ks → depth_of (get_or ks n arguments) ≡ 0
-closed-at [] n c = refl
-closed-at (k ∷ ks) zero c = c.0
-closed-at (k ∷ ks) (suc n) c = closed-at ks n c.1
-
 abbrev declared_env : List Known → Env
 declared_env ks = record { declared = ks; locals = [] }
 
 agrees : (m : Place → Option ℕ) (fs : Option ℕ → List Bool) (ks : List Known) → AllClosed ks → Agree m fs [] 0 (levels_of ks) (declared_env ks) 0 at_first
-agrees m fs ks c = (refl, (λ n. ((let e = closed-at ks n c in omega (arith, e)), λ args. refl), (omega arith, λ args. refl)))
+agrees m fs ks c = (refl, (λ n. ((let e = c n in omega (arith, e)), λ args. refl), (omega arith, λ args. refl)))
 
 known-definition : (m : Place → Option ℕ) (fs : Option ℕ → List Bool) (ks : List Known) → AllClosed ks → (ps : List Decl) (t : Term)
     → Knows [] (λ args. told (level m (l.with_parameters m (levels_of ks) ps args) 0 t)) (definition 0 (length ps) (weigh m fs (0 + length ps) (with_parameters m 0 (declared_env ks) ps) at_first t))
@@ -52,7 +47,7 @@ least-is ss es ks c ps t =
 
 pub primed-is : (ss : List (Place × ℕ)) (es : List Entry) (ks : List Known) → AllClosed ks → (ps : List Decl) (t : Term)
     → primed_first (body_weight (names_of ss es ks) 0 at_first ps t).uses (0 + length ps) ≡ primed_parameters (symbol_at ss) (flags_of es) ps t
-primed-is ss es ks c ps t = primed-next (symbol_at ss) (flags_of es) at_first t _ 0 ps (declared_env ks) refl (λ j n h. blank-closed (get_or ks n arguments) j (closed-at ks n c)) refl
+primed-is ss es ks c ps t = primed-next (symbol_at ss) (flags_of es) at_first t _ 0 ps (declared_env ks) refl (λ j n h. blank-closed (get_or ks n arguments) j (c n)) refl
 
 pub judged-is : (ss : List (Place × ℕ)) (es : List Entry) (ks : List Known) → AllClosed ks → (t : Term)
     → ((weight_of (names_of ss es ks) 0 at_first t).least, (weight_of (names_of ss es ks) 0 at_first t).faults) ≡ level (symbol_at ss) (levels_of ks) 0 t
@@ -86,23 +81,18 @@ levels-set ks n k h i m = (ap (function_of []) (set-at ks n m k h) ∙ chosen (n
     chosen true = refl
     chosen false = refl
 
-pub closed-set : (ks : List Known) (n : ℕ) (k : Known) → AllClosed ks → depth_of k ≡ 0 → AllClosed (set ks n k)
-closed-set [] n k c h = tt
-closed-set (x ∷ ks) zero k c h = (h, c.1)
-closed-set (x ∷ ks) (suc n) k c h = (c.0, closed-set ks n k c.1 h)
+pub closed-set : (ks : List Known) (n : ℕ) (k : Known) → n < length ks → AllClosed ks → depth_of k ≡ 0 → AllClosed (set ks n k)
+closed-set ks n k h c e m = ap depth_of (set-at ks n m k h) ∙ chosen (nat_eq n m)
+  where
+    chosen : (t : Bool) → depth_of (if t then k else get_or ks m arguments) ≡ 0
+    chosen true = e
+    chosen false = c m
 
-more-at : (ks : List Known) (n : ℕ) → get_or (ks ++ arguments ∷ []) n arguments ≡ get_or ks n arguments
-more-at [] zero = refl
-more-at [] (suc n) = refl
-more-at (k ∷ ks) zero = refl
-more-at (k ∷ ks) (suc n) = more-at ks n
-
-pub levels-more : (ks next : List Known) → next ≡ ks ++ arguments ∷ [] → levels_of next ≡ levels_of ks
-levels-more ks next e = ap levels_of e ∙ (λ i n. function_of [] (more-at ks n i))
-
-closed-one : (ks : List Known) → AllClosed ks → AllClosed (ks ++ arguments ∷ [])
-closed-one [] c = (refl, tt)
-closed-one (k ∷ ks) c = (c.0, closed-one ks c.1)
-
-pub closed-more : (ks next : List Known) → next ≡ ks ++ arguments ∷ [] → AllClosed ks → AllClosed next
-closed-more ks next e c = subst AllClosed (sym e) (closed-one ks c)
+pub more-at : (ks next : List Known) (n : ℕ) → next ≡ ks ++ arguments ∷ [] → get_or next n arguments ≡ get_or ks n arguments
+more-at ks next n e = ap (λ l. get_or l n arguments) e ∙ go ks n
+  where
+    go : (ks : List Known) (n : ℕ) → get_or (ks ++ arguments ∷ []) n arguments ≡ get_or ks n arguments
+    go [] zero = refl
+    go [] (suc n) = refl
+    go (k ∷ ks) zero = refl
+    go (k ∷ ks) (suc n) = go ks n

@@ -18,7 +18,7 @@ use Rattle.tla_ast.specs.declared.tree.Key.TheVariants as key
 use Rattle.tla_ast.specs.declared.tree.Path.{Path, out-Path}
 use Rattle.tla_ast.specs.declared.tree.Group.{Group, out-Group}
 use Rattle.tla_ast.specs.declared.tree.Def.{Def, out-Def}
-use Rattle.plain_syntax.specs.Plain.{Text, Term, Terms, Keys, Groups, Defs}
+use Rattle.plain_syntax.specs.Plain.{Text, Term, Terms, Shape, Keys, Groups, Defs}
 use Rattle.plain_syntax.specs.Plain.Term.{term}
 use Rattle.plain_syntax.specs.Plain.Terms.{none, part}
 use Rattle.plain_syntax.specs.Plain.{Shape as s}
@@ -28,6 +28,27 @@ use Rattle.plain_syntax.proofs.Forms.{held, by-form, parts_in, is-name, is-call,
 use Rattle.expression_level.specs.Weights.{Weight, Known, join, total, nothing, at_name, form_weight, result_so_far, asked_round}
 use Rattle.expression_level.specs.Scope.{Names, applied, weight_of, weights_of, turned, count, ruled, by_form, acted, updates_on, excepted, sets_of, keys_on, bodies_of, domain_weight, with_definition, with_all, body_weight}
 use Rattle.expression_level.proofs.Uses.{join-assoc, nothing-joined, joined-nothing}
+
+-- ---- loops
+
+pub next-one : {X : Type 0} (xs : List X) (i j : ℕ) (x : X) → j ≡ i + 1 → i < length xs → x ≡ get_or xs i x → drop i xs ≡ x ∷ drop j xs
+next-one xs i j x e h a = drop-cons xs i x h ∙ (λ m. sym a m ∷ drop ((sym (add-one i) ∙ sym e) m) xs)
+
+pub all-past : {X : Type 0} (xs : List X) (i : ℕ) → length xs ≤ i → drop i xs ≡ []
+all-past [] zero h = refl
+all-past [] (suc i) h = refl
+all-past (x ∷ xs) zero h = absurd (omega (arith, h))
+all-past (x ∷ xs) (suc i) h = all-past xs i (omega (arith, h))
+
+-- one more item of a list that is taken together
+pub rest-next : {X : Type 0} (f : X → Weight) (g : List X → Weight) → ((x : X) (xs : List X) → g (x ∷ xs) ≡ join (f x) (g xs)) → (all now next w : Weight) (xs : List X) (i : ℕ) (x : X)
+    → join now (g (drop i xs)) ≡ all → i < length xs → x ≡ get_or xs i x → w ≡ f x → next ≡ join now w → join next (g (drop (i + 1) xs)) ≡ all
+rest-next f g h all now next w xs i x r l e u n =
+    ap (λ y. join y (g (drop (i + 1) xs))) (n ∙ ap (join now) u) ∙ join-assoc now (f x) (g (drop (i + 1) xs))
+    ∙ ap (join now) (sym (h x (drop (i + 1) xs))) ∙ ap (λ y. join now (g y)) (sym (next-one xs i (i + 1) x refl l e)) ∙ r
+
+pub rest-ends : {X : Type 0} (g : List X → Weight) → g [] ≡ nothing → (all now : Weight) (xs : List X) (i : ℕ) → join now (g (drop i xs)) ≡ all → length xs ≤ i → now ≡ all
+rest-ends g h all now xs i r l = sym (joined-nothing now) ∙ ap (join now) (sym (ap g (all-past xs i l) ∙ h)) ∙ r
 
 -- ---- operators, one after another
 
@@ -42,23 +63,21 @@ module _ (c : Names) (d : ℕ) (k : Known) where
   length-each none = refl
   length-each (part t ts) = ap suc (length-each ts)
 
+  -- an operator comes behind its operands
+  operator : (f : Shape) (ts : Terms) (p : Place) (stack : List Weight) → fold (turned c d k) stack (orders ts) ≡ stack ++ weights_of c d k ts
+      → ((l : List Weight) → turned c d k l (term f ts p) ≡ take (length l - count ts) l ++ form_weight f p (total (drop (length l - count ts) l)) ∷ [])
+      → fold (turned c d k) stack (orders ts ++ term f ts p ∷ []) ≡ stack ++ form_weight f p (total (weights_of c d k ts)) ∷ []
+  operator f ts p stack e h =
+      fold-append (turned c d k) stack (orders ts) (term f ts p ∷ []) ∙ ap (λ l. turned c d k l (term f ts p)) e ∙ h (stack ++ weights_of c d k ts)
+      ∙ operated (λ ws. form_weight f p (total ws)) stack (weights_of c d k ts) (count ts) (length-each ts)
+
   mutual
     pub in-order : (t : Term) (stack : List Weight) → fold (turned c d k) stack (order t) ≡ stack ++ weight_of c d k t ∷ []
-    in-order (term (s.prefixed o) ts p) stack =
-        fold-append (turned c d k) stack (orders ts) (term (s.prefixed o) ts p ∷ []) ∙ ap (λ l. turned c d k l (term (s.prefixed o) ts p)) (all-in-order ts stack)
-        ∙ operated (λ ws. form_weight (s.prefixed o) p (total ws)) stack (weights_of c d k ts) (count ts) (length-each ts)
-    in-order (term (s.infixed o) ts p) stack =
-        fold-append (turned c d k) stack (orders ts) (term (s.infixed o) ts p ∷ []) ∙ ap (λ l. turned c d k l (term (s.infixed o) ts p)) (all-in-order ts stack)
-        ∙ operated (λ ws. form_weight (s.infixed o) p (total ws)) stack (weights_of c d k ts) (count ts) (length-each ts)
-    in-order (term s.prime ts p) stack =
-        fold-append (turned c d k) stack (orders ts) (term s.prime ts p ∷ []) ∙ ap (λ l. turned c d k l (term s.prime ts p)) (all-in-order ts stack)
-        ∙ operated (λ ws. form_weight s.prime p (total ws)) stack (weights_of c d k ts) (count ts) (length-each ts)
-    in-order (term s.index ts p) stack =
-        fold-append (turned c d k) stack (orders ts) (term s.index ts p ∷ []) ∙ ap (λ l. turned c d k l (term s.index ts p)) (all-in-order ts stack)
-        ∙ operated (λ ws. form_weight s.index p (total ws)) stack (weights_of c d k ts) (count ts) (length-each ts)
-    in-order (term (s.field h) ts p) stack =
-        fold-append (turned c d k) stack (orders ts) (term (s.field h) ts p ∷ []) ∙ ap (λ l. turned c d k l (term (s.field h) ts p)) (all-in-order ts stack)
-        ∙ operated (λ ws. form_weight (s.field h) p (total ws)) stack (weights_of c d k ts) (count ts) (length-each ts)
+    in-order (term (s.prefixed o) ts p) stack = operator (s.prefixed o) ts p stack (all-in-order ts stack) (λ l. refl)
+    in-order (term (s.infixed o) ts p) stack = operator (s.infixed o) ts p stack (all-in-order ts stack) (λ l. refl)
+    in-order (term s.prime ts p) stack = operator s.prime ts p stack (all-in-order ts stack) (λ l. refl)
+    in-order (term s.index ts p) stack = operator s.index ts p stack (all-in-order ts stack) (λ l. refl)
+    in-order (term (s.field h) ts p) stack = operator (s.field h) ts p stack (all-in-order ts stack) (λ l. refl)
     in-order (term f ts p) stack = refl
 
     pub all-in-order : (ts : Terms) (stack : List Weight) → fold (turned c d k) stack (orders ts) ≡ stack ++ weights_of c d k ts
@@ -85,28 +104,22 @@ module _ (c : Names) (d : ℕ) (k : Known) where
   turns-except stack ks [] p g = refl
   turns-except stack ks (t ∷ ts) p g = refl
 
+  rolled : (stack : List Weight) (ts : List Term) (p : Place) (x : Unrolled) {h : Held} → held (roll-Form x) ≡ h → Turns stack ts p (λ ws. ruled x p (total ws)) (joined_by x) h
+      → Turns stack ts p (λ ws. ruled x p (total ws)) (joined_by x) (held (roll-Form x))
+  rolled stack ts p x e y = subst (Turns stack ts p (λ ws. ruled x p (total ws)) (joined_by x)) (sym e) y
+
+  counted : (stack : List Weight) (ts : List Term) (p : Place) (f : Shape) → Operated stack (count (terms_of ts)) (λ ws. form_weight f p (total ws)) ≡ Operated stack (length ts) (λ ws. form_weight f p (total ws))
+  counted stack ts p f = ap (λ n. Operated stack n (λ ws. form_weight f p (total ws))) (count-of ts)
+
   turns-rolled : (stack : List Weight) (ts : List Term) (p : Place) (x : Unrolled) → Turns stack ts p (λ ws. ruled x p (total ws)) (joined_by x) (held (roll-Form x))
   unfolding held
-  turns-rolled stack ts p (Form-F.Prefix o) =
-      let x : Unrolled = Form-F.Prefix o in
-      subst (Turns stack ts p (λ ws. ruled x p (total ws)) true) (sym (fold-roll-Form _ _ _ _ _ _ shape_of key_of def_of group_of node_of path_of x)) (ap (λ n. Operated stack n (λ ws. form_weight (s.prefixed o) p (total ws))) (count-of ts))
-  turns-rolled stack ts p (Form-F.Infix o) =
-      let x : Unrolled = Form-F.Infix o in
-      subst (Turns stack ts p (λ ws. ruled x p (total ws)) true) (sym (fold-roll-Form _ _ _ _ _ _ shape_of key_of def_of group_of node_of path_of x)) (ap (λ n. Operated stack n (λ ws. form_weight (s.infixed o) p (total ws))) (count-of ts))
-  turns-rolled stack ts p Form-F.Prime =
-      let x : Unrolled = Form-F.Prime in
-      subst (Turns stack ts p (λ ws. ruled x p (total ws)) true) (sym (fold-roll-Form _ _ _ _ _ _ shape_of key_of def_of group_of node_of path_of x)) (ap (λ n. Operated stack n (λ ws. form_weight s.prime p (total ws))) (count-of ts))
-  turns-rolled stack ts p Form-F.Index =
-      let x : Unrolled = Form-F.Index in
-      subst (Turns stack ts p (λ ws. ruled x p (total ws)) true) (sym (fold-roll-Form _ _ _ _ _ _ shape_of key_of def_of group_of node_of path_of x)) (ap (λ n. Operated stack n (λ ws. form_weight s.index p (total ws))) (count-of ts))
-  turns-rolled stack ts p (Form-F.Form::Field h) =
-      let x : Unrolled = Form-F.Form::Field h in
-      subst (Turns stack ts p (λ ws. ruled x p (total ws)) true) (sym (fold-roll-Form _ _ _ _ _ _ shape_of key_of def_of group_of node_of path_of x)) (ap (λ n. Operated stack n (λ ws. form_weight (s.field h) p (total ws))) (count-of ts))
-  turns-rolled stack ts p (Form-F.Except ps) =
-      let x : Unrolled = Form-F.Except ps in
-      subst (Turns stack ts p (λ ws. ruled x p (total ws)) false) (sym (fold-roll-Form _ _ _ _ _ _ shape_of key_of def_of group_of node_of path_of x)) (turns-except stack _ ts p (λ ws. ruled x p (total ws)))
-  turns-rolled stack ts p x =
-      subst (Turns stack ts p (λ ws. ruled x p (total ws)) false) (sym (fold-roll-Form _ _ _ _ _ _ shape_of key_of def_of group_of node_of path_of x)) refl
+  turns-rolled stack ts p (Form-F.Prefix o) = rolled stack ts p (Form-F.Prefix o) (fold-roll-Form _ _ _ _ _ _ shape_of key_of def_of group_of node_of path_of (Form-F.Prefix o)) (counted stack ts p (s.prefixed o))
+  turns-rolled stack ts p (Form-F.Infix o) = rolled stack ts p (Form-F.Infix o) (fold-roll-Form _ _ _ _ _ _ shape_of key_of def_of group_of node_of path_of (Form-F.Infix o)) (counted stack ts p (s.infixed o))
+  turns-rolled stack ts p Form-F.Prime = rolled stack ts p Form-F.Prime (fold-roll-Form _ _ _ _ _ _ shape_of key_of def_of group_of node_of path_of Form-F.Prime) (counted stack ts p s.prime)
+  turns-rolled stack ts p Form-F.Index = rolled stack ts p Form-F.Index (fold-roll-Form _ _ _ _ _ _ shape_of key_of def_of group_of node_of path_of Form-F.Index) (counted stack ts p s.index)
+  turns-rolled stack ts p (Form-F.Form::Field h) = rolled stack ts p (Form-F.Form::Field h) (fold-roll-Form _ _ _ _ _ _ shape_of key_of def_of group_of node_of path_of (Form-F.Form::Field h)) (counted stack ts p (s.field h))
+  turns-rolled stack ts p (Form-F.Except ps) = rolled stack ts p (Form-F.Except ps) (fold-roll-Form _ _ _ _ _ _ shape_of key_of def_of group_of node_of path_of (Form-F.Except ps)) (turns-except stack _ ts p total)
+  turns-rolled stack ts p x = rolled stack ts p x (fold-roll-Form _ _ _ _ _ _ shape_of key_of def_of group_of node_of path_of x) refl
 
   turns-node : (n : Node) (stack : List Weight)
       → turned c d k stack (term_of n)
@@ -147,12 +160,6 @@ module _ (c : Names) (d : ℕ) (k : Known) where
   parts-weights : Node → List Weight
   parts-weights n = weights_of c d k (parts_in n)
 
-  pub weighs-name : (n : Node) (w : Text) → (out-Node n).form ≡ form.Name w → weight_of c d k (term_of n) ≡ applied c d k (out-Node n).place (parts_in n)
-  weighs-name n w e = ap (weight_of c d k) (is-name n w e)
-
-  pub weighs-call : (n : Node) (w : Text) → (out-Node n).form ≡ form.Call w → weight_of c d k (term_of n) ≡ applied c d k (out-Node n).place (parts_in n)
-  weighs-call n w e = ap (weight_of c d k) (is-call n w e)
-
   acts-box : (ts : Terms) (p : Place) → weight_of c d k (term s.box ts p) ≡ acted c d k p ts
   acts-box none p = refl
   acts-box (part t ts) p = refl
@@ -167,18 +174,11 @@ module _ (c : Names) (d : ℕ) (k : Known) where
   pub weighs-angle : (n : Node) → (out-Node n).form ≡ form.AngleAct → weight_of c d k (term_of n) ≡ acted c d k (out-Node n).place (parts_in n)
   weighs-angle n e = ap (weight_of c d k) (is-angle n e) ∙ acts-angle (parts_in n) (out-Node n).place
 
-  pub weighs-at : (n : Node) → (out-Node n).form ≡ form.At → weight_of c d k (term_of n) ≡ at_name (out-Node n).place k []
-  weighs-at n e = ap (weight_of c d k) (is-at n e)
-
-  pub weighs-quant : (n : Node) (all : Bool) (gs : List Group) → (out-Node n).form ≡ form.Quant all gs
-      → weight_of c d k (term_of n) ≡ join (sets_of c d k (each_group gs)) (total (weights_of c d k (parts_in n)))
-  weighs-quant n all gs e = ap (weight_of c d k) (is-quantifier n all gs e)
-
   sets-made : (ns : List Decl) (o : Option Node) (rest : Groups) → sets_of c d k (with_domain ns (set_of o) rest) ≡ join (domain_weight c d k o) (sets_of c d k rest)
   sets-made ns None rest = sym (nothing-joined (sets_of c d k rest))
   sets-made ns (Some n) rest = refl
 
-  sets-group : (g : Group) (rest : Groups) → sets_of c d k (groups_of g rest) ≡ join (domain_weight c d k (out-Group g).domain) (sets_of c d k rest)
+  pub sets-group : (g : Group) (rest : Groups) → sets_of c d k (groups_of g rest) ≡ join (domain_weight c d k (out-Group g).domain) (sets_of c d k rest)
   sets-group g rest = ap (λ (f : Groups → Groups). sets_of c d k (f rest)) (is-group g) ∙ sets-made (out-Group g).names (out-Group g).domain rest
 
   pub weighs-choose : (n : Node) (g : Group) → (out-Node n).form ≡ form.Choose g
@@ -186,14 +186,6 @@ module _ (c : Names) (d : ℕ) (k : Known) where
   weighs-choose n g e =
       ap (weight_of c d k) (is-choice n g e)
       ∙ ap (λ x. join x (total (weights_of c d k (parts_in n)))) (sets-group g Groups.end_groups ∙ joined-nothing (domain_weight c d k (out-Group g).domain))
-
-  pub sets-next : (all now next x : Weight) (gs rest : List Group) (g : Group) → join now (sets_of c d k (each_group gs)) ≡ all → gs ≡ g ∷ rest
-      → x ≡ domain_weight c d k (out-Group g).domain → next ≡ join now x → join next (sets_of c d k (each_group rest)) ≡ all
-  sets-next all now next x gs rest g h e w a =
-      ap (λ y. join y (sets_of c d k (each_group rest))) (a ∙ ap (join now) w)
-      ∙ join-assoc now (domain_weight c d k (out-Group g).domain) (sets_of c d k (each_group rest))
-      ∙ ap (join now) (sym (sets-group g (each_group rest)))
-      ∙ ap (λ l. join now (sets_of c d k (each_group l))) (sym e) ∙ h
 
   keys-rolled : (x : Key-F Form Key Def Group Node Path) (rest : Keys) → keys_on c d k (key_keys (roll-Key x) rest) ≡ join (keys_on c d k (key_keys (roll-Key x) Keys.end_keys)) (keys_on c d k rest)
   keys-rolled (Key-F.Key::At n) rest =
@@ -206,7 +198,7 @@ module _ (c : Names) (d : ℕ) (k : Known) where
       ∙ sym (nothing-joined (keys_on c d k rest))
       ∙ ap (λ x. join x (keys_on c d k rest)) (sym (ap (λ (f : Keys → Keys). keys_on c d k (f Keys.end_keys)) e))
 
-  keys-split : (y : Key) (rest : Keys) → keys_on c d k (key_keys y rest) ≡ join (keys_on c d k (key_keys y Keys.end_keys)) (keys_on c d k rest)
+  pub keys-split : (y : Key) (rest : Keys) → keys_on c d k (key_keys y rest) ≡ join (keys_on c d k (key_keys y Keys.end_keys)) (keys_on c d k rest)
   keys-split y rest = subst (λ z. keys_on c d k (key_keys z rest) ≡ join (keys_on c d k (key_keys z Keys.end_keys)) (keys_on c d k rest)) (roll-out-Key y) (keys-rolled (out-Key y) rest)
 
   pub weighs-key : (y : Key) (n : Node) → y ≡ key.At n → keys_on c d k (each_key (y ∷ [])) ≡ weight_of c d k (term_of n)
@@ -214,14 +206,6 @@ module _ (c : Names) (d : ℕ) (k : Known) where
 
   pub weighs-field-key : (y : Key) (h : Text) → y ≡ key.Field h → keys_on c d k (each_key (y ∷ [])) ≡ nothing
   weighs-field-key y h e = ap (λ z. keys_on c d k (each_key (z ∷ []))) e ∙ ap (λ (f : Keys → Keys). keys_on c d k (f Keys.end_keys)) (is-field-key h)
-
-  pub keys-next : (all now next x : Weight) (ks rest : List Key) (y : Key) → join now (keys_on c d k (each_key ks)) ≡ all → ks ≡ y ∷ rest
-      → x ≡ keys_on c d k (each_key (y ∷ [])) → next ≡ join now x → join next (keys_on c d k (each_key rest)) ≡ all
-  keys-next all now next x ks rest y h e w a =
-      ap (λ z. join z (keys_on c d k (each_key rest))) (a ∙ ap (join now) w)
-      ∙ join-assoc now (keys_on c d k (each_key (y ∷ []))) (keys_on c d k (each_key rest))
-      ∙ ap (join now) (sym (keys-split y (each_key rest)))
-      ∙ ap (λ l. join now (keys_on c d k (each_key l))) (sym e) ∙ h
 
   -- ---- several expressions
 
@@ -273,11 +257,6 @@ module _ (c : Names) (d : ℕ) (k : Known) where
   no-more-values (p ∷ ps) x = refl
 
   -- ---- definitions
-
-  pub weighs-let : (n : Node) (ds : List Def) → (out-Node n).form ≡ form.Let ds
-      → weight_of c d k (term_of n) ≡ join (bodies_of c d k (each_def ds)) (total (weights_of (with_all d k (each_def ds) c) d k (parts_in n)))
-  weighs-let n ds e =
-      ap (weight_of c d k) (is-local n ds e)
 
   -- ---- all other forms
 
@@ -336,15 +315,6 @@ because x y r e h = subst (λ z. IfOk r (λ w. w ≡ z)) (sym e) h
 pub in-any-case : {A P : Type 0} (r : Result A Memory) → P → OnOk r P
 in-any-case (Ok a) p = p
 in-any-case (Err e) p = tt
-
-pub next-one : {X : Type 0} (xs : List X) (i j : ℕ) (x : X) → j ≡ i + 1 → i < length xs → x ≡ get_or xs i x → drop i xs ≡ x ∷ drop j xs
-next-one xs i j x e h a = drop-cons xs i x h ∙ (λ m. sym a m ∷ drop ((sym (add-one i) ∙ sym e) m) xs)
-
-pub all-past : {X : Type 0} (xs : List X) (i : ℕ) → length xs ≤ i → drop i xs ≡ []
-all-past [] zero h = refl
-all-past [] (suc i) h = refl
-all-past (x ∷ xs) zero h = absurd (omega (arith, h))
-all-past (x ∷ xs) (suc i) h = all-past xs i (omega (arith, h))
 
 pub last-one : {X : Type 0} (xs : List X) (x w : X) → xs ++ x ∷ [] ≡ w ∷ [] → x ≡ w
 last-one [] x w e = ap (λ l. get_or l 0 x) e

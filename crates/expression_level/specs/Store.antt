@@ -31,8 +31,7 @@ levels_of ks n = function_of [] (get_or ks n arguments)
 
 -- no parameters are bound round what is kept
 abbrev pub AllClosed : List Known → Type 0
-AllClosed [] = Unit {0}
-AllClosed (k ∷ ks) = (depth_of k ≡ 0) × AllClosed ks
+AllClosed ks = (n : ℕ) → depth_of (get_or ks n arguments) ≡ 0
 
 -- which parameters the entry of a number primes
 abbrev pub flags_of : List Entry → Option ℕ → List Bool

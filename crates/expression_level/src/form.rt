@@ -29,7 +29,7 @@ fn prefix(operator: &[u8], place: Place, weight: &mut Weight) -> Result<(), Memo
     ensures { OnOk result (weight.new ≡ weights.prefix_weight operator.now place weight.old) }
 {
     if operator == UNCHANGED {
-        weight.prime();
+        weight.prime(true);
         weight.limit(1, place)?;
         weight.fix(2);
     } else if operator == ENABLED {
@@ -61,7 +61,7 @@ pub fn apply(form: &Form, place: Place, weight: &mut Weight) -> Result<(), Memor
             Ok(())
         }
         Form::Prime => {
-            weight.prime();
+            weight.prime(true);
             weight.limit(1, place)?;
             weight.lift();
             Ok(())
@@ -80,7 +80,7 @@ pub fn act(mut action: Weight, mut subscript: Weight, place: Place) -> Result<We
 {
     let is_fault = 2 < action.least || 1 < subscript.least;
     action.cap(2);
-    subscript.prime();
+    subscript.prime(true);
     subscript.cap(1);
     action.join(subscript)?;
     action.note(is_fault, place)?;

@@ -224,7 +224,7 @@ fn mark(args: &mut Vec<Weight>, flags: &[bool])
     ensures { args.new.items ≡ spec.marked flags.now args.old.items }
 {
     for index in 0..flags.len().min(args.len()) {
-        args[index].prime_if(flags[index]);
+        args[index].prime(flags[index]);
     }
 }
 

@@ -302,19 +302,12 @@ impl Weight {
         change_all(&mut self.uses, Change::Raised);
     }
 
-    /// All that stands in the expression is primed.
-    pub fn prime(&mut self)
-        ensures { self.new ≡ spec.all_primed self.old }
-    {
-        change_all(&mut self.uses, Change::Primed);
-    }
-
-    /// The same, if so.
-    pub fn prime_if(&mut self, is_so: bool)
+    /// All that stands in the expression is primed, if so.
+    pub fn prime(&mut self, is_so: bool)
         ensures { self.new ≡ spec.primed_if is_so self.old }
     {
         if is_so {
-            self.prime();
+            change_all(&mut self.uses, Change::Primed);
         }
     }
 

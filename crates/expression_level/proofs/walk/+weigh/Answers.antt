@@ -1,8 +1,9 @@
-use Rattle.std.proofs.Common.{◌≡◌, ◌≤◌, ◌<◌, ◌+◌, ◌++◌, [], ◌∷◌, map, take, drop, fold, length, slice_index_or, refl, sym, ap, subst, ◌∙◌, arith, append-nil}
+use Rattle.std.proofs.Common.{◌≡◌, ◌≤◌, ◌<◌, ◌+◌, ◌++◌, [], ◌∷◌, map, take, drop, fold, length, slice_index_or, get_or, refl, sym, ap, subst, ◌∙◌, arith, append-nil}
 use Rattle.tla_ast.specs.declared.tree.Node.{out-Node, size-Node}
 use Rattle.tla_ast.specs.declared.tree.Def.{out-Def}
 use Rattle.tla_ast.specs.declared.tree.Group.{out-Group}
 use Rattle.tla_ast.specs.declared.tree.Path.{out-Path}
+use Rattle.plain_syntax.proofs.Forms.{is-name, is-call, is-at, is-quantifier, is-local}
 use Rattle.plain_syntax.specs.Syntax.{term_of, terms_of, each_group, each_key, each_def}
 use Rattle.expression_level.specs.Levels.{has_fault}
 use Rattle.expression_level.specs.Weights.{at_name, join, total, subscripted, asked_round}
@@ -10,7 +11,7 @@ use Rattle.expression_level.specs.Weights.Known.{defined}
 use Rattle.expression_level.specs.Scope.{turned, weight_of, weights_of, sets_of, keys_on, bodies_of, updates_on, domain_weight, by_form, acted, left, with_name, with_more, with_all}
 use Rattle.expression_level.proofs.Uses.{joined-nothing}
 use Rattle.expression_level.proofs.Locals.{definitions-left, parameters-left}
-use Rattle.expression_level.proofs.Walks.{in-order, turns-operator, turns-leaf, turn-next, weighs-name, weighs-call, weighs-box, weighs-angle, weighs-at, weighs-quant, weighs-choose, weighs-let, weighs-plain, sets-next, keys-next, weighs-key, weighs-field-key, each-next, updates-next, no-more-values, except-begins, except-empty, bodies-step, known-step, next-one, all-past, last-one, because, in-any-case}
+use Rattle.expression_level.proofs.Walks.{in-order, turns-operator, turns-leaf, turn-next, weighs-box, weighs-angle, weighs-choose, weighs-plain, rest-next, rest-ends, sets-group, keys-split, weighs-key, weighs-field-key, each-next, updates-next, no-more-values, except-begins, except-empty, bodies-step, known-step, next-one, all-past, last-one, because, in-any-case}
 use Rattle.expression_level.proofs.walk.+weigh.Goals as goal
 
 pub weigh-loop-next-init : goal.weigh-loop-next-init
@@ -60,10 +61,10 @@ turn-returns-then-is_operator-clause-turned t c =
     c.in_ok-weight.ensures.taken c.in_ok-weight.ensures.weight c.in_ok-push.ensures.items
 
 pub leaf-returns-in-Name-clause-weight : goal.leaf-returns-in-Name-clause-weight
-leaf-returns-in-Name-clause-weight t c = because _ _ c.name.result (weighs-name c.args.names.now c.args.depth c.args.at.now c.args.node.now _ c.in-Name.is) c.name.ensures.weight
+leaf-returns-in-Name-clause-weight t c = because _ _ c.name.result (ap (weight_of c.args.names.now c.args.depth c.args.at.now) (is-name c.args.node.now _ c.in-Name.is)) c.name.ensures.weight
 
 pub leaf-returns-in-Call-clause-weight : goal.leaf-returns-in-Call-clause-weight
-leaf-returns-in-Call-clause-weight t c = because _ _ c.name-in-Call.result (weighs-call c.args.names.now c.args.depth c.args.at.now c.args.node.now _ c.in-Call.is) c.name-in-Call.ensures.weight
+leaf-returns-in-Call-clause-weight t c = because _ _ c.name-in-Call.result (ap (weight_of c.args.names.now c.args.depth c.args.at.now) (is-call c.args.node.now _ c.in-Call.is)) c.name-in-Call.ensures.weight
 
 pub leaf-returns-in-BoxAct-clause-weight : goal.leaf-returns-in-BoxAct-clause-weight
 leaf-returns-in-BoxAct-clause-weight t c = because _ _ c.action.result (weighs-box c.args.names.now c.args.depth c.args.at.now c.args.node.now c.in-BoxAct.is) c.action.ensures.weight
@@ -75,7 +76,7 @@ leaf-returns-in-AngleAct-clause-weight t c =
 pub leaf-returns-in-At-clause-weight : goal.leaf-returns-in-At-clause-weight
 leaf-returns-in-At-clause-weight t c =
     let p = (out-Node c.args.node.now).place in
-    because _ _ c.at_name.result (weighs-at c.args.names.now c.args.depth c.args.at.now c.args.node.now c.in-At.is ∙ ap (at_name p c.args.at.now) (sym c.new-none.ensures.items)) c.at_name.ensures
+    because _ _ c.at_name.result (ap (weight_of c.args.names.now c.args.depth c.args.at.now) (is-at c.args.node.now c.in-At.is) ∙ ap (at_name p c.args.at.now) (sym c.new-none.ensures.items)) c.at_name.ensures
 
 pub leaf-returns-in-Except-clause-weight : goal.leaf-returns-in-Except-clause-weight
 leaf-returns-in-Except-clause-weight t c = c.except.ensures.weight (_, c.in-Except.is)
@@ -85,7 +86,7 @@ leaf-returns-in_ok-before-in-Quant-clause-weight t c =
     let n = c.args.names.now in let d = c.args.depth in let k = c.args.at.now in
     let s = c.in_ok-before-in-Quant.ensures.weight ∙ ap (λ l. sets_of n d k (each_group l)) c.as_slice.ensures in
     because _ _ c.behind.result
-    (weighs-quant n d k c.args.node.now _ _ c.in-Quant.is
+    (ap (weight_of n d k) (is-quantifier c.args.node.now _ _ c.in-Quant.is)
     ∙ sym (λ i. join (s i) (total (weights_of (c.in_ok-before-in-Quant.ensures.same i) d k (terms_of (map term_of (out-Node c.args.node.now).parts))))))
     c.behind.ensures.weight
 
@@ -111,7 +112,7 @@ leaf-returns-in_ok-all-in-Let-clause-weight t c =
     let m = c.in_ok-before-in-Let.ensures.known ∙ ap (λ l. with_all d k (each_def l) n) c.as_slice-in-Let.ensures in
     c.in_ok-all-in-Let.ensures.weight
     ∙ (λ i. join (s i) (total (weights_of (m i) d k (terms_of (map term_of (out-Node c.args.node.now).parts)))))
-    ∙ sym (weighs-let n d k c.args.node.now _ c.in-Let.is)
+    ∙ sym (ap (weight_of n d k) (is-local c.args.node.now _ c.in-Let.is))
 
 pub leaf-returns-in_ok-apply-in_default : goal.leaf-returns-in_ok-apply-in_default
 leaf-returns-in_ok-apply-in_default t c =
@@ -159,23 +160,18 @@ action-returns t c =
 
 pub sets-loop-group-preserved : goal.sets-loop-group-preserved
 sets-loop-group-preserved t c =
-    let n = c.args.names.now in let d = c.args.depth in let k = c.args.at.now in
+    let n = c.args.names.now in let d = c.args.depth in let k = c.args.at.now in let x = c.loop-group.invariant in
     record {
-      same = c.in_ok-weight.ensures.same ∙ c.loop-group.invariant.same;
-      rest = sets-next n d k _ c.loop-group.all c.join.new.self c.in_ok-weight.weight _ _ c.group-item.result c.loop-group.invariant.rest
-          (next-one c.args.groups.now c.loop-group.group-index (c.loop-group.group-index + 1) c.group-item.result refl c.loop-group-test.true c.group-item.is)
-          (c.in_ok-weight.ensures.weight ∙ ap (λ s. domain_weight s d k (out-Group c.group-item.result).domain) c.loop-group.invariant.same) c.in_ok-join.ensures;
+      same = c.in_ok-weight.ensures.same ∙ x.same;
+      rest = rest-next (λ g. domain_weight n d k (out-Group g).domain) (λ l. sets_of n d k (each_group l)) (λ g l. sets-group n d k g (each_group l)) _ _ _ _ c.args.groups.now _ _
+          x.rest c.loop-group-test.true c.group-item.is (c.in_ok-weight.ensures.weight ∙ ap (λ s. domain_weight s d k (out-Group c.group-item.result).domain) x.same) c.in_ok-join.ensures;
     }
 
 pub sets-returns : goal.sets-returns
-sets-returns t c =
-    let n = c.args.names.now in let d = c.args.depth in let k = c.args.at.now in
-    record {
-      same = c.loop-group.invariant.same;
-      weight = sym (joined-nothing c.loop-group.all)
-          ∙ ap (λ l. join c.loop-group.all (sets_of n d k (each_group l))) (sym (all-past c.args.groups.now c.loop-group.group-index c.loop-group-test.false))
-          ∙ c.loop-group.invariant.rest;
-    }
+sets-returns t c = record {
+  same = c.loop-group.invariant.same;
+  weight = rest-ends (λ l. sets_of c.args.names.now c.args.depth c.args.at.now (each_group l)) refl _ _ c.args.groups.now _ c.loop-group.invariant.rest c.loop-group-test.false;
+}
 
 pub key-returns-in-At-clause-weight : goal.key-returns-in-At-clause-weight
 key-returns-in-At-clause-weight t c = because _ _ c.weigh.result (weighs-key c.args.names.now c.args.depth c.args.at.now c.args.key.now _ c.in-At.is) c.weigh.ensures.weight
@@ -185,25 +181,20 @@ key-returns-in-Field-clause-weight t c = c.nothing-none.ensures ∙ sym (weighs-
 
 pub keys-loop-part-preserved : goal.keys-loop-part-preserved
 keys-loop-part-preserved t c =
-    let n = c.args.names.now in let d = c.args.depth in let k = c.args.at.now in
+    let n = c.args.names.now in let d = c.args.depth in let k = c.args.at.now in let x = c.loop-part.invariant in let e = c.as_slice-part-items.ensures in
     record {
-      same = c.in_ok-weight.ensures.same ∙ c.loop-part.invariant.same;
-      rest = keys-next n d k _ c.loop-part.all c.join.new.self c.in_ok-weight.weight _ _ c.part-item.result c.loop-part.invariant.rest
-          (subst (λ l. drop c.loop-part.part-index l ≡ c.part-item.result ∷ drop (c.loop-part.part-index + 1) l) c.as_slice-part-items.ensures
-          (next-one c.as_slice-part-items.result.now c.loop-part.part-index (c.loop-part.part-index + 1) c.part-item.result refl c.loop-part-test.true c.part-item.is))
-          (c.in_ok-weight.ensures.weight ∙ ap (λ s. keys_on s d k (each_key (c.part-item.result ∷ []))) c.loop-part.invariant.same) c.in_ok-join.ensures;
+      same = c.in_ok-weight.ensures.same ∙ x.same;
+      rest = rest-next (λ y. keys_on n d k (each_key (y ∷ []))) (λ l. keys_on n d k (each_key l)) (λ y l. keys-split n d k y (each_key l)) _ _ _ _ (out-Path c.args.path.now).keys _ _
+          x.rest (subst (λ l. c.loop-part.part-index < length l) e c.loop-part-test.true) (c.part-item.is ∙ ap (λ l. get_or l c.loop-part.part-index c.part-item.result) e)
+          (c.in_ok-weight.ensures.weight ∙ ap (λ s. keys_on s d k (each_key (c.part-item.result ∷ []))) x.same) c.in_ok-join.ensures;
     }
 
 pub keys-returns : goal.keys-returns
-keys-returns t c =
-    let n = c.args.names.now in let d = c.args.depth in let k = c.args.at.now in
-    record {
-      same = c.loop-part.invariant.same;
-      weight = sym (joined-nothing c.loop-part.all)
-          ∙ ap (λ l. join c.loop-part.all (keys_on n d k (each_key l)))
-          (sym (ap (drop c.loop-part.part-index) (sym c.as_slice-part-items.ensures) ∙ all-past c.as_slice-part-items.result.now c.loop-part.part-index c.loop-part-test.false))
-          ∙ c.loop-part.invariant.rest;
-    }
+keys-returns t c = record {
+  same = c.loop-part.invariant.same;
+  weight = rest-ends (λ l. keys_on c.args.names.now c.args.depth c.args.at.now (each_key l)) refl _ _ (out-Path c.args.path.now).keys _ c.loop-part.invariant.rest
+      (subst (λ l. length l ≤ c.loop-part.part-index) c.as_slice-part-items.ensures c.loop-part-test.false);
+}
 
 pub except-returns-in_default-split_first-clause-weight : goal.except-returns-in_default-split_first-clause-weight
 except-returns-in_default-split_first-clause-weight t c = λ h.
@@ -257,11 +248,10 @@ definitions-loop-def-preserved t c =
 
 pub definitions-returns : goal.definitions-returns
 definitions-returns t c =
-    let d = c.args.depth in let k = c.args.at.now in
-    let end = sym (all-past c.args.defs.now c.loop-def.def-index c.loop-def-test.false) in
+    let d = c.args.depth in let k = c.args.at.now in let x = c.loop-def.invariant in
     record {
-      known = ap (λ l. with_all d k (each_def l) c.loop-def.names) end ∙ c.loop-def.invariant.known;
-      weight = sym (joined-nothing c.loop-def.all) ∙ ap (λ l. join c.loop-def.all (bodies_of c.loop-def.names d k (each_def l))) end ∙ c.loop-def.invariant.rest;
+      known = ap (λ l. with_all d k (each_def l) c.loop-def.names) (sym (all-past c.args.defs.now c.loop-def.def-index c.loop-def-test.false)) ∙ x.known;
+      weight = rest-ends (λ l. bodies_of c.loop-def.names d k (each_def l)) refl _ _ c.args.defs.now _ x.rest c.loop-def-test.false;
     }
 
 pub definition-returns : goal.definition-returns
