@@ -1,6 +1,9 @@
 -- What is kept of a definition is what it has.
 use Rattle.std.proofs.Common.{◌≡◌, ◌<◌, ◌++◌, ◌+◌, ℕ, zero, suc, Bool, true, false, nat_eq, if◌then◌else◌, List, [], ◌∷◌, take, length, get_or, Option, refl, sym, ap, subst, ◌∙◌, arith}
 use lib.ListN.{set}
+use Rattle.std.proofs.lemmas.Bool.Decides.{nat_tests}
+use Rattle.std.proofs.lemmas.Grind.{common_steps, get_or-set_at}
+use Rattle.std.proofs.lemmas.List.{get_or-set_other}
 use Rattle.tla_ast.specs.declared.place.Place.{Place}
 use Rattle.tla_ast.specs.declared.tree.Decl.{Decl}
 use Rattle.plain_syntax.specs.Plain.{Term}
@@ -59,20 +62,7 @@ judged-is ss es ks c t =
 -- ---- the list of what is kept
 
 set-at : (ks : List Known) (n m : ℕ) (k : Known) → n < length ks → get_or (set ks n k) m arguments ≡ (if nat_eq n m then k else get_or ks m arguments)
-set-at [] n m k h = absurd (omega (arith, h))
-set-at (x ∷ ks) zero zero k h = refl
-set-at (x ∷ ks) zero (suc m) k h = sym (ap (λ t. if t then k else get_or ks m arguments) (differs m))
-  where
-    differs : (m : ℕ) → nat_eq 0 (suc m) ≡ false
-    differs m = grind arith
-set-at (x ∷ ks) (suc n) zero k h = sym (ap (λ t. if t then k else x) (differs n))
-  where
-    differs : (m : ℕ) → nat_eq (suc m) 0 ≡ false
-    differs m = grind arith
-set-at (x ∷ ks) (suc n) (suc m) k h = set-at ks n m k (omega (arith, h)) ∙ ap (λ t. if t then k else get_or ks m arguments) (same n m)
-  where
-    same : (a b : ℕ) → nat_eq a b ≡ nat_eq (suc a) (suc b)
-    same a b = grind arith
+set-at ks n m k h = grind (arith, nat_tests, get_or-set_at {X = Known}, get_or-set_other {A = Known})
 
 pub levels-set : (ks : List Known) (n : ℕ) (k : Known) → n < length ks → levels_of (set ks n k) ≡ bound n (function_of [] k) (levels_of ks)
 levels-set ks n k h i m = (ap (function_of []) (set-at ks n m k h) ∙ chosen (nat_eq n m)) i
@@ -82,17 +72,7 @@ levels-set ks n k h i m = (ap (function_of []) (set-at ks n m k h) ∙ chosen (n
     chosen false = refl
 
 pub closed-set : (ks : List Known) (n : ℕ) (k : Known) → n < length ks → AllClosed ks → depth_of k ≡ 0 → AllClosed (set ks n k)
-closed-set ks n k h c e m = ap depth_of (set-at ks n m k h) ∙ chosen (nat_eq n m)
-  where
-    chosen : (t : Bool) → depth_of (if t then k else get_or ks m arguments) ≡ 0
-    chosen true = e
-    chosen false = c m
+closed-set ks n k h c e m = let s = set-at ks n m k h in let d = c m in grind (arith, s, d)
 
 pub more-at : (ks next : List Known) (n : ℕ) → next ≡ ks ++ arguments ∷ [] → get_or next n arguments ≡ get_or ks n arguments
-more-at ks next n e = ap (λ l. get_or l n arguments) e ∙ go ks n
-  where
-    go : (ks : List Known) (n : ℕ) → get_or (ks ++ arguments ∷ []) n arguments ≡ get_or ks n arguments
-    go [] zero = refl
-    go [] (suc n) = refl
-    go (k ∷ ks) zero = refl
-    go (k ∷ ks) (suc n) = go ks n
+more-at ks next n e = grind (arith, common_steps)

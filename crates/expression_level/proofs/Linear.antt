@@ -186,49 +186,49 @@ module _ (means : Place → Option ℕ) (flags : Option ℕ → List Bool) where
   mutual
     pub stands : (r : List ℕ) (d : ℕ) (ls : Levels) (env : Env) (a : ℕ) (k : Known) → Agree r d ls env a k → (t : Term) → Stands r (l.level means ls a t) (walk.weigh means flags d env k t)
     stands r d ls env a k g (term (name n) ts p) =
-        stands-at-name r p (applied ls (means p)) (known env (means p)) (l.levels means ls a ts) (w.marked (flags (means p)) (walk.weigh_each means flags d env k ts)) (knows-named r ls env (means p) g.1.0) (stands-each r d ls env a k g (flags (means p)) ts)
+        stands-at-name r p (applied ls (means p)) (known env (means p)) (l.levels means ls a ts) (walk.weigh_each means flags d env k (flags (means p)) ts) (knows-named r ls env (means p) g.1.0) (stands-each r d ls env a k g (flags (means p)) ts)
     stands r d ls env a k g (term (call n) ts p) =
-        stands-at-name r p (applied ls (means p)) (known env (means p)) (l.levels means ls a ts) (w.marked (flags (means p)) (walk.weigh_each means flags d env k ts)) (knows-named r ls env (means p) g.1.0) (stands-each r d ls env a k g (flags (means p)) ts)
+        stands-at-name r p (applied ls (means p)) (known env (means p)) (l.levels means ls a ts) (walk.weigh_each means flags d env k (flags (means p)) ts) (knows-named r ls env (means p) g.1.0) (stands-each r d ls env a k g (flags (means p)) ts)
     stands r d ls env a k g (term box none p) = stands-fixed r 2 (0, []) w.nothing (stands-nothing r)
     stands r d ls env a k g (term box (part t ts) p) =
-        stands-action r p (l.level means ls a t) (l.overall (l.levels means ls a ts)) (walk.weigh means flags d env k t) (w.all_primed (w.total (walk.weigh_each means flags d env k ts))) (stands r d ls env a k g t)
-        (stands-if r true (l.overall (l.levels means ls a ts)) (w.total (walk.weigh_each means flags d env k ts)) (stands-each r d ls env a k g [] ts).1)
+        stands-action r p (l.level means ls a t) (l.overall (l.levels means ls a ts)) (walk.weigh means flags d env k t) (w.all_primed (w.total (walk.weigh_each means flags d env k [] ts))) (stands r d ls env a k g t)
+        (stands-if r true (l.overall (l.levels means ls a ts)) (w.total (walk.weigh_each means flags d env k [] ts)) (stands-each r d ls env a k g [] ts).1)
     stands r d ls env a k g (term angle none p) = stands-fixed r 2 (0, []) w.nothing (stands-nothing r)
     stands r d ls env a k g (term angle (part t ts) p) =
-        stands-action r p (l.level means ls a t) (l.overall (l.levels means ls a ts)) (walk.weigh means flags d env k t) (w.all_primed (w.total (walk.weigh_each means flags d env k ts))) (stands r d ls env a k g t)
-        (stands-if r true (l.overall (l.levels means ls a ts)) (w.total (walk.weigh_each means flags d env k ts)) (stands-each r d ls env a k g [] ts).1)
+        stands-action r p (l.level means ls a t) (l.overall (l.levels means ls a ts)) (walk.weigh means flags d env k t) (w.all_primed (w.total (walk.weigh_each means flags d env k [] ts))) (stands r d ls env a k g t)
+        (stands-if r true (l.overall (l.levels means ls a ts)) (w.total (walk.weigh_each means flags d env k [] ts)) (stands-each r d ls env a k g [] ts).1)
     stands r d ls env a k g (term at ts p) = stands-at-name r p (constantly a) k ([], []) [] g.1.1 (refl, stands-nothing r)
     stands r d ls env a k g (term (except us) none p) = stands-nothing r
     stands r d ls env a k g (term (except us) (part t ts) p) = stands-updates r d ls env a k g (l.level means ls a t) (walk.weigh means flags d env k t) (stands r d ls env a k g t) us
     stands r d ls env a k g (term (quantifier all gs) ts p) =
-        stands-beside r (l.sets means ls a gs) (l.overall (l.levels means ls a ts)) (walk.sets means flags d env k gs) (w.total (walk.weigh_each means flags d env k ts)) (stands-sets r d ls env a k g gs) (stands-each r d ls env a k g [] ts).1
+        stands-beside r (l.sets means ls a gs) (l.overall (l.levels means ls a ts)) (walk.sets means flags d env k gs) (w.total (walk.weigh_each means flags d env k [] ts)) (stands-sets r d ls env a k g gs) (stands-each r d ls env a k g [] ts).1
     stands r d ls env a k g (term (choice gs) ts p) =
-        stands-beside r (l.sets means ls a gs) (l.overall (l.levels means ls a ts)) (walk.sets means flags d env k gs) (w.total (walk.weigh_each means flags d env k ts)) (stands-sets r d ls env a k g gs) (stands-each r d ls env a k g [] ts).1
+        stands-beside r (l.sets means ls a gs) (l.overall (l.levels means ls a ts)) (walk.sets means flags d env k gs) (w.total (walk.weigh_each means flags d env k [] ts)) (stands-sets r d ls env a k g gs) (stands-each r d ls env a k g [] ts).1
     stands r d ls env a k g (term (local ds) ts p) =
         let ms = l.with_definitions means ls a ds in
         let inner = walk.with_definitions means flags d env k ds in
         let h : Agree r d ms inner a k = (g.0, (knows-definitions r d ls env a k g ds, g.1.1)) in
-        stands-beside r (0, l.bodies means ls a ds) (l.overall (l.levels means ms a ts)) (walk.bodies means flags d env k ds) (w.total (walk.weigh_each means flags d inner k ts)) (stands-bodies r d ls env a k g ds) (stands-each r d ms inner a k h [] ts).1
+        stands-beside r (0, l.bodies means ls a ds) (l.overall (l.levels means ms a ts)) (walk.bodies means flags d env k ds) (w.total (walk.weigh_each means flags d inner k [] ts)) (stands-bodies r d ls env a k g ds) (stands-each r d ms inner a k h [] ts).1
     stands r d ls env a k g (term prime ts p) =
         let j = l.overall (l.levels means ls a ts) in
-        let x = w.total (walk.weigh_each means flags d env k ts) in
+        let x = w.total (walk.weigh_each means flags d env k [] ts) in
         stands-primed r p j (w.all_primed x) (stands-if r true j x (stands-each r d ls env a k g [] ts).1)
-    stands r d ls env a k g (term (prefixed o) ts p) = stands-prefix r o p (l.overall (l.levels means ls a ts)) (w.total (walk.weigh_each means flags d env k ts)) (stands-each r d ls env a k g [] ts).1
+    stands r d ls env a k g (term (prefixed o) ts p) = stands-prefix r o p (l.overall (l.levels means ls a ts)) (w.total (walk.weigh_each means flags d env k [] ts)) (stands-each r d ls env a k g [] ts).1
     stands r d ls env a k g (term (infixed o) ts p) =
         let s = (stands-each r d ls env a k g [] ts).1 in
-        chosen r (is_word o (codes "~>")) _ _ _ _ (stands-fixed r 3 (l.overall (l.levels means ls a ts)) (w.total (walk.weigh_each means flags d env k ts)) s) s
-    stands r d ls env a k g (term fair ts p) = stands-fixed r 3 (l.overall (l.levels means ls a ts)) (w.total (walk.weigh_each means flags d env k ts)) (stands-each r d ls env a k g [] ts).1
+        chosen r (is_word o (codes "~>")) _ _ _ _ (stands-fixed r 3 (l.overall (l.levels means ls a ts)) (w.total (walk.weigh_each means flags d env k [] ts)) s) s
+    stands r d ls env a k g (term fair ts p) = stands-fixed r 3 (l.overall (l.levels means ls a ts)) (w.total (walk.weigh_each means flags d env k [] ts)) (stands-each r d ls env a k g [] ts).1
     stands r d ls env a k g (term s ts p) = (stands-each r d ls env a k g [] ts).1
 
-    stands-each : (r : List ℕ) (d : ℕ) (ls : Levels) (env : Env) (a : ℕ) (k : Known) → Agree r d ls env a k → (fs : List Bool) (ts : Terms) → StandEach r (l.levels means ls a ts) (w.marked fs (walk.weigh_each means flags d env k ts))
+    stands-each : (r : List ℕ) (d : ℕ) (ls : Levels) (env : Env) (a : ℕ) (k : Known) → Agree r d ls env a k → (fs : List Bool) (ts : Terms) → StandEach r (l.levels means ls a ts) (walk.weigh_each means flags d env k fs ts)
     stands-each r d ls env a k g [] none = (refl, stands-nothing r)
     stands-each r d ls env a k g (f ∷ fs) none = (refl, stands-nothing r)
     stands-each r d ls env a k g [] (part t ts) =
-        each-before r (l.level means ls a t) (l.levels means ls a ts) (walk.weigh means flags d env k t) (walk.weigh_each means flags d env k ts) (stands r d ls env a k g t) (stands-each r d ls env a k g [] ts)
+        each-before r (l.level means ls a t) (l.levels means ls a ts) (walk.weigh means flags d env k t) (walk.weigh_each means flags d env k [] ts) (stands r d ls env a k g t) (stands-each r d ls env a k g [] ts)
     stands-each r d ls env a k g (f ∷ fs) (part t ts) =
         let j = l.level means ls a t in
         let x = walk.weigh means flags d env k t in
-        each-before r j (l.levels means ls a ts) (w.primed_if f x) (w.marked fs (walk.weigh_each means flags d env k ts)) (stands-if r f j x (stands r d ls env a k g t)) (stands-each r d ls env a k g fs ts)
+        each-before r j (l.levels means ls a ts) (w.primed_if f x) (walk.weigh_each means flags d env k fs ts) (stands-if r f j x (stands r d ls env a k g t)) (stands-each r d ls env a k g fs ts)
 
     stands-sets : (r : List ℕ) (d : ℕ) (ls : Levels) (env : Env) (a : ℕ) (k : Known) → Agree r d ls env a k → (gs : Groups) → Stands r (l.sets means ls a gs) (walk.sets means flags d env k gs)
     stands-sets r d ls env a k g end_groups = stands-nothing r

@@ -1,5 +1,5 @@
 -- What a name has among parameters and definitions.
-use Rattle.std.proofs.Common.{◌≡◌, ◌≢◌, ℕ, zero, suc, ◌≤◌, ◌<◌, Bool, true, false, nat_eq, if◌then◌else◌, List, [], ◌∷◌, ◌++◌, take, length, get_or, Option, Some, None, refl, sym, ap, ◌∙◌, arith, length-append}
+use Rattle.std.proofs.Common.{◌≡◌, ℕ, zero, suc, ◌≤◌, ◌<◌, Bool, true, false, nat_eq, if◌then◌else◌, List, [], ◌∷◌, ◌++◌, take, length, get_or, Option, Some, None, refl, sym, ap, ◌∙◌, arith, length-append}
 use Rattle.std.proofs.lemmas.List.{take-append-le, take_all}
 use Rattle.tla_ast.specs.declared.place.Place.{Place}
 use Rattle.tla_ast.specs.declared.tree.Decl.{Decl}
@@ -13,19 +13,14 @@ use Rattle.std.proofs.Math.Dec.{ltb}
 use Rattle.std.proofs.lemmas.Bool.Decides.{nat_tests}
 use Rattle.std.specs.Borrow.{Bor}
 use Rattle.expression_level.specs.Store.{found}
-use Rattle.expression_level.proofs.Uses.{last-next}
+use Rattle.std.proofs.Math.Seq.{take-suc}
+use Rattle.std.proofs.lemmas.Grind.{common_steps}
 use Rattle.expression_level.specs.declared.names.Local.{Local}
 use Rattle.expression_level.specs.Scope.{Env, Names, newest, or_else, at_number, known, with_local, with_parameters, with_definitions, means_in, flags_in, at_place, left, with_more, with_all}
 
 local-last : (xs : List Local) (x : Local) (n : ℕ) → newest (xs ++ x ∷ []) n ≡ (if nat_eq x.number n then Some x.known else newest xs n)
 local-last [] x n = refl
-local-last (y ∷ ys) x n = ap (λ (o : Option Known). elim o [ Some k ↦ Some k | None ↦ if nat_eq y.number n then Some y.known else None ]) (local-last ys x n) ∙ by-test (nat_eq x.number n)
-  where
-    by-test : (t : Bool)
-        → (elim (if t then Some x.known else newest ys n) [ Some k ↦ Some k | None ↦ if nat_eq y.number n then Some y.known else None ])
-        ≡ (if t then Some x.known else (elim (newest ys n) [ Some k ↦ Some k | None ↦ if nat_eq y.number n then Some y.known else None ]))
-    by-test true = refl
-    by-test false = refl
+local-last (y ∷ ys) x n = grind (arith, local-last ys x n)
 
 pub at-bound : (env : Env) (m : ℕ) (k : Known) (n : ℕ) → at_number (with_local (Some m) k env) n ≡ (if nat_eq m n then k else at_number env n)
 at-bound env m k n = ap (λ o. or_else o (get_or env.declared n arguments)) (local-last env.locals (record { number = m; known = k }) n) ∙ by-test (nat_eq m n)
@@ -34,24 +29,9 @@ at-bound env m k n = ap (λ o. or_else o (get_or env.declared n arguments)) (loc
     by-test true = refl
     by-test false = refl
 
-local-next : (xs ys : List Local) (m i n : ℕ) (x : Local) → ys ≡ xs → x ≡ get_or ys i x → m ≡ suc i → m ≤ length xs
+pub local-next : (xs ys : List Local) (m i n : ℕ) (x : Local) → ys ≡ xs → x ≡ get_or ys i x → m ≡ suc i → m ≤ length xs
     → newest (take m xs) n ≡ (if nat_eq x.number n then Some x.known else newest (take i xs) n)
-local-next xs ys m i n x e a q h =
-    ap (λ l. newest (take l xs) n) q
-    ∙ ap (λ l. newest l n) (sym (last-next xs i x (omega (arith, q, h))) ∙ ap (λ y. take i xs ++ y ∷ []) (sym (a ∙ ap (λ l. get_or l i x) e)))
-    ∙ local-last (take i xs) x n
-
-pub local-hit : (xs ys : List Local) (m i n : ℕ) (x : Local) → ys ≡ xs → x ≡ get_or ys i x → m ≡ suc i → m ≤ length xs → x.number ≡ n → Some x.known ≡ newest (take m xs) n
-local-hit xs ys m i n x e a q h s = sym (local-next xs ys m i n x e a q h ∙ ap (λ t. if t then Some x.known else newest (take i xs) n) (same s))
-  where
-    same : x.number ≡ n → nat_eq x.number n ≡ true
-    same s = grind (arith, s)
-
-pub local-missed : (xs ys : List Local) (m i n : ℕ) (x : Local) → ys ≡ xs → x ≡ get_or ys i x → m ≡ suc i → m ≤ length xs → x.number ≢ n → newest (take m xs) n ≡ newest (take i xs) n
-local-missed xs ys m i n x e a q h s = local-next xs ys m i n x e a q h ∙ ap (λ t. if t then Some x.known else newest (take i xs) n) (differs s)
-  where
-    differs : x.number ≢ n → nat_eq x.number n ≡ false
-    differs s = grind (arith, s)
+local-next xs ys m i n x e a q h = let s = take-suc xs i x (omega (arith, q, h)) in let l = local-last (take i xs) (get_or xs i x) n in grind (arith, s, l)
 
 pub at-local : (s : Names) (o : Option ℕ) (p : Place) (n : ℕ) (k : Known) → Some n ≡ o → o ≡ symbol_at s.symbols p → Some k ≡ newest s.env.locals n → k ≡ at_place s p
 at-local s o p n k a b e = sym (ap (known s.env) (sym (a ∙ b)) ∙ ap (λ x. or_else x (get_or s.env.declared n arguments)) (sym e))
@@ -59,25 +39,9 @@ at-local s o p n k a b e = sym (ap (known s.env) (sym (a ∙ b)) ∙ ap (λ x. o
 pub at-declared : (s : Names) (o : Option ℕ) (p : Place) (n : ℕ) → Some n ≡ o → o ≡ symbol_at s.symbols p → None ≡ newest s.env.locals n → get_or s.env.declared n arguments ≡ at_place s p
 at-declared s o p n a b e = sym (ap (known s.env) (sym (a ∙ b)) ∙ ap (λ x. or_else x (get_or s.env.declared n arguments)) (sym e))
 
-past : (xs : List Known) (n : ℕ) (d : Known) → length xs ≤ n → get_or xs n d ≡ d
-past [] n d h = refl
-past (x ∷ xs) zero d h = absurd (omega (arith, h))
-past (x ∷ xs) (suc n) d h = past xs n d (omega (arith, h))
-
-inside : (xs : List Known) (n : ℕ) (d e : Known) → n < length xs → get_or xs n d ≡ get_or xs n e
-inside [] n d e h = absurd (omega (arith, h))
-inside (x ∷ xs) zero d e h = refl
-inside (x ∷ xs) (suc n) d e h = inside xs n d e (omega (arith, h))
-
-not-less : (n m : ℕ) → false ≡ ltb n m → m ≤ n
-not-less n m h = grind (arith, nat_tests, h)
-
-less : (n m : ℕ) → true ≡ ltb n m → n < m
-less n m h = grind (arith, nat_tests, h)
-
 pub get-found : (o : Option (Bor Known)) (xs : List Known) (n : ℕ) → is_some o ≡ ltb n (length xs) → IfSome o (λ x. x.now ≡ get_or xs n x.now) → found o ≡ get_or xs n arguments
-get-found None xs n e h = sym (past xs n arguments (not-less n (length xs) e))
-get-found (Some k) xs n e h = h ∙ inside xs n k.now arguments (less n (length xs) e)
+get-found None xs n e h = grind (arith, nat_tests, common_steps)
+get-found (Some k) xs n e h = grind (arith, nat_tests, common_steps)
 
 -- ---- the locals round a place stay as they are
 

@@ -1,5 +1,6 @@
 -- What weights say of how a parameter stands in an expression is so by the text.
 use Rattle.std.proofs.Common.{◌≡◌, ◌≢◌, ℕ, zero, suc, ◌+◌, ◌≤◌, ◌<◌, Bool, true, false, nat_eq, if◌then◌else◌, codes, List, [], ◌∷◌, ◌++◌, map, take, drop, length, get_or, Option, Some, None, refl, sym, ap, subst, ◌∙◌, arith, append_assoc, append-nil}
+use Rattle.std.proofs.lemmas.List.{get_or-take}
 use Rattle.tla_ast.specs.declared.place.Place.{Place}
 use Rattle.tla_ast.specs.declared.tree.Decl.{Decl}
 use Rattle.plain_syntax.specs.Plain.{Text, Term, Terms, Updates, Keys, Groups, Defs}
@@ -18,7 +19,7 @@ use Rattle.expression_level.specs.Weights as w
 use Rattle.expression_level.specs.Scope as walk
 use Rattle.expression_level.specs.Scope.{Env, at_number, known, with_local, with_parameters, weigh}
 use Rattle.expression_level.proofs.Locals.{at-bound}
-use Rattle.expression_level.specs.Weights.{Weight, Known, both, stricter, all_uses, join, total, kept, fixed, capped_use, raised_use, limited, lifted, primed_use, all_primed, named, passed, put, unlimited, unused, uses_of, parameter, depth_of, at_name, marked, result_so_far, asked_round, primed_first}
+use Rattle.expression_level.specs.Weights.{Weight, Known, both, stricter, all_uses, join, total, kept, fixed, capped_use, raised_use, limited, lifted, primed_use, all_primed, named, passed, put, unlimited, unused, uses_of, parameter, depth_of, at_name, result_so_far, asked_round, primed_first}
 use Rattle.expression_level.specs.Weights.Known.{arguments, defined}
 use Rattle.expression_level.proofs.Evaluation.{or-false}
 
@@ -48,10 +49,7 @@ seen-same : (f : Use → Use) → ((u : Use) → stands (f u) ≡ stands u) → 
 seen-same f h = seen-map f (λ x. x) refl h
 
 seen-take : (i d : ℕ) (us : List Use) → i < d → seen i (take d us) ≡ seen i us
-seen-take i zero us h = absurd (omega (arith, h))
-seen-take i (suc d) [] h = refl
-seen-take zero (suc d) (u ∷ us) h = refl
-seen-take (suc i) (suc d) (u ∷ us) h = seen-take i d us (omega (arith, h))
+seen-take i d us h = ap stands (get_or-take d us i unused h)
 
 seen-put : (i : ℕ) (p : Place) (us : List Use) (ws : List Weight) → seen i (put p us ws).uses ≡ nowhere
 seen-put i p [] ws = refl
@@ -154,38 +152,38 @@ module _ (i : ℕ) where
     mutual
       pub sees : (d : ℕ) (hs : Holders) (env : Env) (b : Bool) (k : Known) → i < d → HoldAll hs env → Holds k b → (t : Term) → Sees (weigh means flags d env k t) (occurs means flags hs b t)
       sees d hs env b k h a g (term (name n) ts p) =
-          sees-name p (known env (means p)) (is_holder hs (means p)) (marked (flags (means p)) (walk.weigh_each means flags d env k ts)) _ (holds-named hs env (means p) a) (sees-each d hs env b k h a g (flags (means p)) ts)
+          sees-name p (known env (means p)) (is_holder hs (means p)) (walk.weigh_each means flags d env k (flags (means p)) ts) _ (holds-named hs env (means p) a) (sees-each d hs env b k h a g (flags (means p)) ts)
       sees d hs env b k h a g (term (call n) ts p) =
-          sees-name p (known env (means p)) (is_holder hs (means p)) (marked (flags (means p)) (walk.weigh_each means flags d env k ts)) _ (holds-named hs env (means p) a) (sees-each d hs env b k h a g (flags (means p)) ts)
+          sees-name p (known env (means p)) (is_holder hs (means p)) (walk.weigh_each means flags d env k (flags (means p)) ts) _ (holds-named hs env (means p) a) (sees-each d hs env b k h a g (flags (means p)) ts)
       sees d hs env b k h a g (term prime ts p) =
-          let x = total (walk.weigh_each means flags d env k ts) in
+          let x = total (walk.weigh_each means flags d env k [] ts) in
           sees-lifted (limited 1 p (all_primed x)) _ (sees-limited 1 p (all_primed x) _ (sees-primed true x _ (sees-each d hs env b k h a g [] ts)))
-      sees d hs env b k h a g (term (prefixed o) ts p) = sees-prefix p (total (walk.weigh_each means flags d env k ts)) _ (is_word o (codes "UNCHANGED")) _ _ (sees-each d hs env b k h a g [] ts)
-      sees d hs env b k h a g (term (infixed o) ts p) = sees-infix (total (walk.weigh_each means flags d env k ts)) _ (is_word o (codes "~>")) (sees-each d hs env b k h a g [] ts)
-      sees d hs env b k h a g (term fair ts p) = sees-fixed 3 (total (walk.weigh_each means flags d env k ts)) _ (sees-each d hs env b k h a g [] ts)
+      sees d hs env b k h a g (term (prefixed o) ts p) = sees-prefix p (total (walk.weigh_each means flags d env k [] ts)) _ (is_word o (codes "UNCHANGED")) _ _ (sees-each d hs env b k h a g [] ts)
+      sees d hs env b k h a g (term (infixed o) ts p) = sees-infix (total (walk.weigh_each means flags d env k [] ts)) _ (is_word o (codes "~>")) (sees-each d hs env b k h a g [] ts)
+      sees d hs env b k h a g (term fair ts p) = sees-fixed 3 (total (walk.weigh_each means flags d env k [] ts)) _ (sees-each d hs env b k h a g [] ts)
       sees d hs env b k h a g (term box none p) = refl
-      sees d hs env b k h a g (term box (part t ts) p) = sees-action p (weigh means flags d env k t) (total (walk.weigh_each means flags d env k ts)) _ _ (sees d hs env b k h a g t) (sees-each d hs env b k h a g [] ts)
+      sees d hs env b k h a g (term box (part t ts) p) = sees-action p (weigh means flags d env k t) (total (walk.weigh_each means flags d env k [] ts)) _ _ (sees d hs env b k h a g t) (sees-each d hs env b k h a g [] ts)
       sees d hs env b k h a g (term angle none p) = refl
-      sees d hs env b k h a g (term angle (part t ts) p) = sees-action p (weigh means flags d env k t) (total (walk.weigh_each means flags d env k ts)) _ _ (sees d hs env b k h a g t) (sees-each d hs env b k h a g [] ts)
+      sees d hs env b k h a g (term angle (part t ts) p) = sees-action p (weigh means flags d env k t) (total (walk.weigh_each means flags d env k [] ts)) _ _ (sees d hs env b k h a g t) (sees-each d hs env b k h a g [] ts)
       sees d hs env b k h a g (term at ts p) = sees-name p k b [] nowhere g refl
       sees d hs env b k h a g (term (except us) none p) = refl
       sees d hs env b k h a g (term (except us) (part t ts) p) = sees-updates d hs env b k h a g (weigh means flags d env k t) _ (sees d hs env b k h a g t) us
-      sees d hs env b k h a g (term (quantifier all gs) ts p) = sees-join (walk.sets means flags d env k gs) (total (walk.weigh_each means flags d env k ts)) _ _ (sees-sets d hs env b k h a g gs) (sees-each d hs env b k h a g [] ts)
-      sees d hs env b k h a g (term (choice gs) ts p) = sees-join (walk.sets means flags d env k gs) (total (walk.weigh_each means flags d env k ts)) _ _ (sees-sets d hs env b k h a g gs) (sees-each d hs env b k h a g [] ts)
+      sees d hs env b k h a g (term (quantifier all gs) ts p) = sees-join (walk.sets means flags d env k gs) (total (walk.weigh_each means flags d env k [] ts)) _ _ (sees-sets d hs env b k h a g gs) (sees-each d hs env b k h a g [] ts)
+      sees d hs env b k h a g (term (choice gs) ts p) = sees-join (walk.sets means flags d env k gs) (total (walk.weigh_each means flags d env k [] ts)) _ _ (sees-sets d hs env b k h a g gs) (sees-each d hs env b k h a g [] ts)
       sees d hs env b k h a g (term (local ds) ts p) =
-          sees-join (walk.bodies means flags d env k ds) (total (walk.weigh_each means flags d (walk.with_definitions means flags d env k ds) k ts)) _ _ (sees-bodies d hs env b k h a g ds)
+          sees-join (walk.bodies means flags d env k ds) (total (walk.weigh_each means flags d (walk.with_definitions means flags d env k ds) k [] ts)) _ _ (sees-bodies d hs env b k h a g ds)
           (sees-each d (said.with_definitions means flags hs b ds) (walk.with_definitions means flags d env k ds) b k h (hold-definitions d hs env b k h a g ds) g [] ts)
       sees d hs env b k h a g (term s ts p) = sees-each d hs env b k h a g [] ts
 
       sees-each : (d : ℕ) (hs : Holders) (env : Env) (b : Bool) (k : Known) → i < d → HoldAll hs env → Holds k b → (fs : List Bool) (ts : Terms)
-          → Sees (total (marked fs (walk.weigh_each means flags d env k ts))) (said.in_each means flags hs b fs ts)
+          → Sees (total (walk.weigh_each means flags d env k fs ts)) (said.in_each means flags hs b fs ts)
       sees-each d hs env b k h a g [] none = refl
       sees-each d hs env b k h a g (f ∷ fs) none = refl
       sees-each d hs env b k h a g [] (part t ts) =
-          sees-join (weigh means flags d env k t) (total (walk.weigh_each means flags d env k ts)) _ _ (sees d hs env b k h a g t) (sees-each d hs env b k h a g [] ts)
+          sees-join (weigh means flags d env k t) (total (walk.weigh_each means flags d env k [] ts)) _ _ (sees d hs env b k h a g t) (sees-each d hs env b k h a g [] ts)
       sees-each d hs env b k h a g (f ∷ fs) (part t ts) =
           let x = weigh means flags d env k t in
-          sees-join (if f then all_primed x else x) (total (marked fs (walk.weigh_each means flags d env k ts))) _ _ (sees-primed f x _ (sees d hs env b k h a g t)) (sees-each d hs env b k h a g fs ts)
+          sees-join (if f then all_primed x else x) (total (walk.weigh_each means flags d env k fs ts)) _ _ (sees-primed f x _ (sees d hs env b k h a g t)) (sees-each d hs env b k h a g fs ts)
 
       sees-sets : (d : ℕ) (hs : Holders) (env : Env) (b : Bool) (k : Known) → i < d → HoldAll hs env → Holds k b → (gs : Groups) → Sees (walk.sets means flags d env k gs) (said.in_sets means flags hs b gs)
       sees-sets d hs env b k h a g end_groups = refl

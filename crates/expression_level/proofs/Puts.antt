@@ -1,9 +1,9 @@
 -- Loops over arguments, one step after another.
 use Rattle.std.proofs.Common.{◌≡◌, ℕ, zero, suc, ◌+◌, ◌≤◌, ◌<◌, Bool, false, take, ◌||◌, List, [], ◌∷◌, ◌++◌, drop, length, get_or, replicate, min, refl, sym, ap, ◌∙◌, arith, drop-cons, add-one}
-use lib.ListN.{set}
+use Rattle.std.proofs.lemmas.Grind.{common_steps}
 use Rattle.tla_ast.specs.declared.place.Place.{Place}
 use Rattle.expression_level.specs.declared.weight.Use.{Use}
-use Rattle.expression_level.specs.Weights.{Weight, unused, as_it_is, uses_of, nothing, join, total, argument, put, primed_if, marked}
+use Rattle.expression_level.specs.Weights.{Weight, unused, as_it_is, uses_of, nothing, join, total, argument, put}
 use Rattle.expression_level.proofs.Uses.{join-assoc, nothing-joined, joined-nothing}
 
 pub uses_of_is : (n : ℕ) → uses_of n ≡ replicate n unused ++ as_it_is ∷ []
@@ -18,7 +18,7 @@ total-ends all now [] n h e z = sym (joined-nothing now) ∙ h
 total-ends all now (w ∷ ws) n h e z = absurd (omega (arith, e, z))
 
 next-item : {X : Type 0} (xs : List X) (i : ℕ) (x : X) → i < length xs → x ≡ get_or xs i x → drop i xs ≡ x ∷ drop (i + 1) xs
-next-item xs i x h e = drop-cons xs i x h ∙ (λ j. sym e j ∷ drop (sym (add-one i) j) xs)
+next-item xs i x h e = grind (arith, common_steps)
 
 pub put-next : (p : Place) (all now next given : Weight) (us : List Use) (ws : List Weight) (i : ℕ) (u : Use) (w : Weight) → join now (put p (drop i us) (drop i ws)) ≡ all → i < length us → i < length ws
     → w ≡ get_or ws i w → given ≡ argument p (get_or us i u) w → next ≡ join now given → join next (put p (drop (i + 1) us) (drop (i + 1) ws)) ≡ all
@@ -44,26 +44,3 @@ ends p (suc i) (u ∷ us) (w ∷ ws) h = ends p i us ws (omega (arith, h))
 
 pub put-ends : (p : Place) (all now : Weight) (us : List Use) (ws : List Weight) (i : ℕ) → join now (put p (drop i us) (drop i ws)) ≡ all → min (length us) (length ws) ≤ i → now ≡ all
 put-ends p all now us ws i h e = sym (joined-nothing now) ∙ ap (join now) (sym (ends p i us ws e)) ∙ h
-
--- one more argument is marked in its place
-mark-step : (fs : List Bool) (ws : List Weight) (i : ℕ) (b : Bool) (w : Weight) → i < length fs → i < length ws
-    → set (marked (take i fs) ws) i (primed_if (get_or fs i b) (get_or (marked (take i fs) ws) i w)) ≡ marked (take (suc i) fs) ws
-mark-step [] ws i b w h k = absurd (omega (arith, h))
-mark-step (f ∷ fs) [] i b w h k = absurd (omega (arith, k))
-mark-step (f ∷ fs) (x ∷ ws) zero b w h k = refl
-mark-step (f ∷ fs) (x ∷ ws) (suc i) b w h k = ap (λ l. primed_if f x ∷ l) (mark-step fs ws i b w (omega (arith, h)) (omega (arith, k)))
-
-pub mark-next : (fs : List Bool) (ws now : List Weight) (i : ℕ) (b : Bool) (w next : Weight) → now ≡ marked (take i fs) ws → i < length fs → i < length ws
-    → w ≡ get_or now i w → next ≡ primed_if (get_or fs i b) w → set now i next ≡ marked (take (i + 1) fs) ws
-mark-next fs ws now i b w next e h k a n =
-    ap (set now i) (n ∙ ap (primed_if (get_or fs i b)) a)
-    ∙ ap (λ l. set l i (primed_if (get_or fs i b) (get_or l i w))) e
-    ∙ mark-step fs ws i b w h k ∙ ap (λ m. marked (take m fs) ws) (sym (add-one i))
-
-pub mark-ends : (fs : List Bool) (ws : List Weight) (i : ℕ) → min (length fs) (length ws) ≤ i → marked (take i fs) ws ≡ marked fs ws
-mark-ends [] ws zero h = refl
-mark-ends [] ws (suc i) h = refl
-mark-ends (f ∷ fs) [] zero h = refl
-mark-ends (f ∷ fs) [] (suc i) h = refl
-mark-ends (f ∷ fs) (w ∷ ws) zero h = absurd (omega (arith, h))
-mark-ends (f ∷ fs) (w ∷ ws) (suc i) h = ap (λ l. primed_if f w ∷ l) (mark-ends fs ws i (omega (arith, h)))

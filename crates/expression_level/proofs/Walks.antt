@@ -1,7 +1,6 @@
 -- The walk of the code over an expression gives its weight.
 use Rattle.std.proofs.Common.{◌≡◌, ◌≤◌, ◌<◌, ◌++◌, ◌+◌, ◌-◌, ℕ, zero, suc, Bool, true, false, if◌then◌else◌, List, [], ◌∷◌, fold, map, take, drop, length, get_or, Option, Some, None, refl, sym, ap, subst, ◌∙◌, arith, append_assoc, append-nil, length-append, drop-cons, add-one}
-use Rattle.std.proofs.lemmas.Grind.{fold-append}
-use Rattle.std.proofs.lemmas.List.{take_at, drop_at}
+use Rattle.std.proofs.lemmas.Grind.{fold-append, common_steps}
 use Rattle.std.specs.Prelude.{Result, Ok, Err, IfOk, OnOk}
 use Rattle.std.specs.Borrow.{Bor}
 use Rattle.core_expr.specs.declared.memory.Memory.{Memory}
@@ -25,20 +24,17 @@ use Rattle.plain_syntax.specs.Plain.{Shape as s}
 use Rattle.plain_syntax.specs.Syntax.{Held, shape_of, key_of, def_of, group_of, node_of, path_of, term_of, terms_of, keys_of, key_keys, each_key, groups_of, each_group, each_def, with_domain, set_of, except_of}
 use Rattle.plain_syntax.specs.Order.{order, orders, joined_by, joins}
 use Rattle.plain_syntax.proofs.Forms.{held, by-form, parts_in, is-name, is-call, is-box, is-angle, is-at, is-except, is-quantifier, is-choice, is-local, is-path, is-key, is-field-key, is-group, is-def}
-use Rattle.expression_level.specs.Weights.{Weight, Known, join, total, nothing, at_name, form_weight, result_so_far, asked_round}
+use Rattle.expression_level.specs.Weights.{Weight, Known, primed_if, join, total, nothing, at_name, form_weight, result_so_far, asked_round}
 use Rattle.expression_level.specs.Scope.{Names, applied, weight_of, weights_of, turned, count, ruled, by_form, acted, updates_on, excepted, sets_of, keys_on, bodies_of, domain_weight, with_definition, with_all, body_weight}
 use Rattle.expression_level.proofs.Uses.{join-assoc, nothing-joined, joined-nothing}
 
 -- ---- loops
 
 pub next-one : {X : Type 0} (xs : List X) (i j : ℕ) (x : X) → j ≡ i + 1 → i < length xs → x ≡ get_or xs i x → drop i xs ≡ x ∷ drop j xs
-next-one xs i j x e h a = drop-cons xs i x h ∙ (λ m. sym a m ∷ drop ((sym (add-one i) ∙ sym e) m) xs)
+next-one xs i j x e h a = grind (arith, common_steps)
 
 pub all-past : {X : Type 0} (xs : List X) (i : ℕ) → length xs ≤ i → drop i xs ≡ []
-all-past [] zero h = refl
-all-past [] (suc i) h = refl
-all-past (x ∷ xs) zero h = absurd (omega (arith, h))
-all-past (x ∷ xs) (suc i) h = all-past xs i (omega (arith, h))
+all-past xs i h = grind (arith, common_steps)
 
 -- one more item of a list that is taken together
 pub rest-next : {X : Type 0} (f : X → Weight) (g : List X → Weight) → ((x : X) (xs : List X) → g (x ∷ xs) ≡ join (f x) (g xs)) → (all now next w : Weight) (xs : List X) (i : ℕ) (x : X)
@@ -54,22 +50,20 @@ rest-ends g h all now xs i r l = sym (joined-nothing now) ∙ ap (join now) (sym
 
 operated : (g : List Weight → Weight) (stack ws : List Weight) (n : ℕ) → length ws ≡ n
     → take (length (stack ++ ws) - n) (stack ++ ws) ++ g (drop (length (stack ++ ws) - n) (stack ++ ws)) ∷ [] ≡ stack ++ g ws ∷ []
-operated g stack ws n e =
-    let h : length stack ≡ length (stack ++ ws) - n = let a = length-append stack ws in omega (arith, a, e) in
-    (λ i. take_at stack ws (length (stack ++ ws) - n) h i ++ g (drop_at stack ws (length (stack ++ ws) - n) h i) ∷ [])
+operated g stack ws n e = grind (arith, common_steps)
 
 module _ (c : Names) (d : ℕ) (k : Known) where
-  pub length-each : (ts : Terms) → length (weights_of c d k ts) ≡ count ts
+  pub length-each : (ts : Terms) → length (weights_of c d k [] ts) ≡ count ts
   length-each none = refl
   length-each (part t ts) = ap suc (length-each ts)
 
   -- an operator comes behind its operands
-  operator : (f : Shape) (ts : Terms) (p : Place) (stack : List Weight) → fold (turned c d k) stack (orders ts) ≡ stack ++ weights_of c d k ts
+  operator : (f : Shape) (ts : Terms) (p : Place) (stack : List Weight) → fold (turned c d k) stack (orders ts) ≡ stack ++ weights_of c d k [] ts
       → ((l : List Weight) → turned c d k l (term f ts p) ≡ take (length l - count ts) l ++ form_weight f p (total (drop (length l - count ts) l)) ∷ [])
-      → fold (turned c d k) stack (orders ts ++ term f ts p ∷ []) ≡ stack ++ form_weight f p (total (weights_of c d k ts)) ∷ []
+      → fold (turned c d k) stack (orders ts ++ term f ts p ∷ []) ≡ stack ++ form_weight f p (total (weights_of c d k [] ts)) ∷ []
   operator f ts p stack e h =
-      fold-append (turned c d k) stack (orders ts) (term f ts p ∷ []) ∙ ap (λ l. turned c d k l (term f ts p)) e ∙ h (stack ++ weights_of c d k ts)
-      ∙ operated (λ ws. form_weight f p (total ws)) stack (weights_of c d k ts) (count ts) (length-each ts)
+      fold-append (turned c d k) stack (orders ts) (term f ts p ∷ []) ∙ ap (λ l. turned c d k l (term f ts p)) e ∙ h (stack ++ weights_of c d k [] ts)
+      ∙ operated (λ ws. form_weight f p (total ws)) stack (weights_of c d k [] ts) (count ts) (length-each ts)
 
   mutual
     pub in-order : (t : Term) (stack : List Weight) → fold (turned c d k) stack (order t) ≡ stack ++ weight_of c d k t ∷ []
@@ -80,11 +74,11 @@ module _ (c : Names) (d : ℕ) (k : Known) where
     in-order (term (s.field h) ts p) stack = operator (s.field h) ts p stack (all-in-order ts stack) (λ l. refl)
     in-order (term f ts p) stack = refl
 
-    pub all-in-order : (ts : Terms) (stack : List Weight) → fold (turned c d k) stack (orders ts) ≡ stack ++ weights_of c d k ts
+    pub all-in-order : (ts : Terms) (stack : List Weight) → fold (turned c d k) stack (orders ts) ≡ stack ++ weights_of c d k [] ts
     all-in-order none stack = sym (append-nil stack)
     all-in-order (part t ts) stack =
         fold-append (turned c d k) stack (order t) (orders ts) ∙ ap (λ l. fold (turned c d k) l (orders ts)) (in-order t stack)
-        ∙ all-in-order ts (stack ++ weight_of c d k t ∷ []) ∙ append_assoc stack (weight_of c d k t ∷ []) (weights_of c d k ts)
+        ∙ all-in-order ts (stack ++ weight_of c d k t ∷ []) ∙ append_assoc stack (weight_of c d k t ∷ []) (weights_of c d k [] ts)
 
   count-of : (ts : List Term) → count (terms_of ts) ≡ length ts
   count-of [] = refl
@@ -158,7 +152,7 @@ module _ (c : Names) (d : ℕ) (k : Known) where
   -- ---- other forms
 
   parts-weights : Node → List Weight
-  parts-weights n = weights_of c d k (parts_in n)
+  parts-weights n = weights_of c d k [] (parts_in n)
 
   acts-box : (ts : Terms) (p : Place) → weight_of c d k (term s.box ts p) ≡ acted c d k p ts
   acts-box none p = refl
@@ -182,10 +176,10 @@ module _ (c : Names) (d : ℕ) (k : Known) where
   sets-group g rest = ap (λ (f : Groups → Groups). sets_of c d k (f rest)) (is-group g) ∙ sets-made (out-Group g).names (out-Group g).domain rest
 
   pub weighs-choose : (n : Node) (g : Group) → (out-Node n).form ≡ form.Choose g
-      → weight_of c d k (term_of n) ≡ join (domain_weight c d k (out-Group g).domain) (total (weights_of c d k (parts_in n)))
+      → weight_of c d k (term_of n) ≡ join (domain_weight c d k (out-Group g).domain) (total (weights_of c d k [] (parts_in n)))
   weighs-choose n g e =
       ap (weight_of c d k) (is-choice n g e)
-      ∙ ap (λ x. join x (total (weights_of c d k (parts_in n)))) (sets-group g Groups.end_groups ∙ joined-nothing (domain_weight c d k (out-Group g).domain))
+      ∙ ap (λ x. join x (total (weights_of c d k [] (parts_in n)))) (sets-group g Groups.end_groups ∙ joined-nothing (domain_weight c d k (out-Group g).domain))
 
   keys-rolled : (x : Key-F Form Key Def Group Node Path) (rest : Keys) → keys_on c d k (key_keys (roll-Key x) rest) ≡ join (keys_on c d k (key_keys (roll-Key x) Keys.end_keys)) (keys_on c d k rest)
   keys-rolled (Key-F.Key::At n) rest =
@@ -209,12 +203,22 @@ module _ (c : Names) (d : ℕ) (k : Known) where
 
   -- ---- several expressions
 
-  pub each-next : (all : List Weight) (now next : List Weight) (x : Weight) (ns rest : List Node) (n : Node) → now ++ weights_of c d k (terms_of (map term_of ns)) ≡ all → ns ≡ n ∷ rest
-      → x ≡ weight_of c d k (term_of n) → next ≡ now ++ x ∷ [] → next ++ weights_of c d k (terms_of (map term_of rest)) ≡ all
-  each-next all now next x ns rest n h e w a =
-      ap (λ l. l ++ weights_of c d k (terms_of (map term_of rest))) (a ∙ ap (λ y. now ++ y ∷ []) w)
-      ∙ append_assoc now (weight_of c d k (term_of n) ∷ []) (weights_of c d k (terms_of (map term_of rest)))
-      ∙ ap (λ l. now ++ weights_of c d k (terms_of (map term_of l))) (sym e) ∙ h
+  flagged : (fs : List Bool) (i : ℕ) (t : Term) (ts : Terms) → weights_of c d k (drop i fs) (part t ts) ≡ primed_if (get_or fs i false) (weight_of c d k t) ∷ weights_of c d k (drop (suc i) fs) ts
+  flagged [] zero t ts = refl
+  flagged [] (suc i) t ts = refl
+  flagged (f ∷ fs) zero t ts = refl
+  flagged (f ∷ fs) (suc i) t ts = flagged fs i t ts
+
+  pub each-next : (all now next : List Weight) (x : Weight) (fs : List Bool) (ns : List Node) (i : ℕ) (n : Node) → now ++ weights_of c d k (drop i fs) (terms_of (map term_of (drop i ns))) ≡ all
+      → i < length ns → n ≡ get_or ns i n → x ≡ primed_if (get_or fs i false) (weight_of c d k (term_of n)) → next ≡ now ++ x ∷ []
+      → next ++ weights_of c d k (drop (i + 1) fs) (terms_of (map term_of (drop (i + 1) ns))) ≡ all
+  each-next all now next x fs ns i n h l e w a =
+      let rest = terms_of (map term_of (drop (i + 1) ns)) in
+      ap (λ l. l ++ weights_of c d k (drop (i + 1) fs) rest) (a ∙ ap (λ y. now ++ y ∷ []) w)
+      ∙ append_assoc now (primed_if (get_or fs i false) (weight_of c d k (term_of n)) ∷ []) (weights_of c d k (drop (i + 1) fs) rest)
+      ∙ ap (λ m. now ++ primed_if (get_or fs i false) (weight_of c d k (term_of n)) ∷ weights_of c d k (drop m fs) rest) (add-one i)
+      ∙ ap (λ l. now ++ l) (sym (flagged fs i (term_of n) rest))
+      ∙ ap (λ l. now ++ weights_of c d k (drop i fs) (terms_of (map term_of l))) (sym (next-one ns i (i + 1) n refl l e)) ∙ h
 
   -- ---- updates
 
@@ -248,7 +252,7 @@ module _ (c : Names) (d : ℕ) (k : Known) where
   pub turn-next : (all : List Weight) (stack next : List Weight) (xs : List (Bor Node)) (i : ℕ) (x : Bor Node) (s : Names) → fold (turned c d k) stack (map (λ n. term_of n.now) (drop i xs)) ≡ all
       → i < length xs → x ≡ get_or xs i x → s ≡ c → next ≡ turned s d k stack (term_of x.now) → fold (turned c d k) next (map (λ n. term_of n.now) (drop (i + 1) xs)) ≡ all
   turn-next all stack next xs i x s h l e q a =
-      let n = drop-cons xs i x l ∙ (λ m. sym e m ∷ drop (sym (add-one i) m) xs) in
+      let n = next-one xs i (i + 1) x refl l e in
       ap (λ z. fold (turned c d k) z (map (λ n. term_of n.now) (drop (i + 1) xs))) (a ∙ ap (λ z. turned z d k stack (term_of x.now)) q)
       ∙ ap (λ z. fold (turned c d k) stack (map (λ n. term_of n.now) z)) (sym n) ∙ h
 
@@ -262,10 +266,10 @@ module _ (c : Names) (d : ℕ) (k : Known) where
 
   plain : (f : Form) (ts : List Term) (p : Place) → ((w : Text) → f ≡ form.Name w → ⊥) → ((w : Text) → f ≡ form.Call w → ⊥) → (f ≡ form.BoxAct → ⊥) → (f ≡ form.AngleAct → ⊥)
       → (f ≡ form.At → ⊥) → ((ps : List Path) → f ≡ form.Except ps → ⊥) → ((a : Bool) (gs : List Group) → f ≡ form.Quant a gs → ⊥) → ((g : Group) → f ≡ form.Choose g → ⊥)
-      → ((ds : List Def) → f ≡ form.Let ds → ⊥) → weight_of c d k (held f ts p) ≡ by_form f p (total (weights_of c d k (terms_of ts)))
+      → ((ds : List Def) → f ≡ form.Let ds → ⊥) → weight_of c d k (held f ts p) ≡ by_form f p (total (weights_of c d k [] (terms_of ts)))
   unfolding held
   plain f ts p hn hc hb ha ht he hq hg hl =
-      (elim (out-Form f) as (λ x. out-Form f ≡ x → weight_of c d k (held f ts p) ≡ by_form f p (total (weights_of c d k (terms_of ts)))) [
+      (elim (out-Form f) as (λ x. out-Form f ≡ x → weight_of c d k (held f ts p) ≡ by_form f p (total (weights_of c d k [] (terms_of ts)))) [
         | Form-F.Name w ↦ λ e. absurd (hn w (sym (roll-out-Form f) ∙ ap roll-Form e ∙ rolls-Name w))
         | Form-F.Call w ↦ λ e. absurd (hc w (sym (roll-out-Form f) ∙ ap roll-Form e ∙ rolls-Call w))
         | Form-F.BoxAct ↦ λ e. absurd (hb (sym (roll-out-Form f) ∙ ap roll-Form e ∙ rolls-BoxAct))
@@ -276,13 +280,13 @@ module _ (c : Names) (d : ℕ) (k : Known) where
         | Form-F.Choose g ↦ λ e. absurd (hg g (sym (roll-out-Form f) ∙ ap roll-Form e ∙ rolls-Choose g))
         | Form-F.Let ds ↦ λ e. absurd (hl ds (sym (roll-out-Form f) ∙ ap roll-Form e ∙ rolls-Let ds))
         | _ ↦ λ e. ap (λ (h : Held). weight_of c d k (h ts p)) (ap held (sym (roll-out-Form f)) ∙ ap (λ x. held (roll-Form x)) e ∙ fold-roll-Form _ _ _ _ _ _ shape_of key_of def_of group_of node_of path_of _)
-            ∙ ap (λ x. ruled x p (total (weights_of c d k (terms_of ts)))) (sym e)
+            ∙ ap (λ x. ruled x p (total (weights_of c d k [] (terms_of ts)))) (sym e)
       ]) refl
 
   pub weighs-plain : (n : Node) → ((w : Text) → (out-Node n).form ≡ form.Name w → ⊥) → ((w : Text) → (out-Node n).form ≡ form.Call w → ⊥) → ((out-Node n).form ≡ form.BoxAct → ⊥)
       → ((out-Node n).form ≡ form.AngleAct → ⊥) → ((out-Node n).form ≡ form.At → ⊥) → ((ps : List Path) → (out-Node n).form ≡ form.Except ps → ⊥)
       → ((a : Bool) (gs : List Group) → (out-Node n).form ≡ form.Quant a gs → ⊥) → ((g : Group) → (out-Node n).form ≡ form.Choose g → ⊥) → ((ds : List Def) → (out-Node n).form ≡ form.Let ds → ⊥)
-      → weight_of c d k (term_of n) ≡ by_form (out-Node n).form (out-Node n).place (total (weights_of c d k (parts_in n)))
+      → weight_of c d k (term_of n) ≡ by_form (out-Node n).form (out-Node n).place (total (weights_of c d k [] (parts_in n)))
   weighs-plain n hn hc hb ha ht he hq hg hl =
       ap (weight_of c d k) (by-form n (held (out-Node n).form) refl) ∙ plain (out-Node n).form (map term_of (out-Node n).parts) (out-Node n).place hn hc hb ha ht he hq hg hl
 
@@ -317,5 +321,4 @@ in-any-case (Ok a) p = p
 in-any-case (Err e) p = tt
 
 pub last-one : {X : Type 0} (xs : List X) (x w : X) → xs ++ x ∷ [] ≡ w ∷ [] → x ≡ w
-last-one [] x w e = ap (λ l. get_or l 0 x) e
-last-one (y ∷ xs) x w e = absurd (let h = ap length e in let g = length-append xs (x ∷ []) in omega (arith, h, g))
+last-one xs x w e = grind (arith, common_steps)

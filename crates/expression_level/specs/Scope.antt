@@ -22,7 +22,7 @@ use Rattle.plain_syntax.specs.Syntax.{term_of, keys_of, updates_of}
 use Rattle.symbol_table.specs.Symbols.{symbol_at}
 use Rattle.symbol_table.specs.declared.entry.Entry.{Entry}
 use Rattle.expression_level.specs.Store.{flags_of}
-use Rattle.expression_level.specs.Weights.{Known, Weight, parameter, definition, result_so_far, asked_round, nothing, join, total, marked, at_name, subscripted, all_primed, prefix_weight, infix_weight, form_weight, lifted, limited, fixed}
+use Rattle.expression_level.specs.Weights.{Known, Weight, parameter, definition, result_so_far, asked_round, nothing, join, total, primed_if, at_name, subscripted, all_primed, prefix_weight, infix_weight, form_weight, lifted, limited, fixed}
 use Rattle.expression_level.specs.Weights.Known.{arguments}
 use Rattle.expression_level.specs.declared.names.Local.{Local}
 
@@ -62,23 +62,25 @@ module _ (means : Place → Option ℕ) (flags : Option ℕ → List Bool) where
   -- the weight of an expression among so many parameters, where names have these and `@` stands for this
   abbrev mutual
     pub weigh : ℕ → Env → Known → Term → Weight
-    weigh d env a (term (name w) ts p) = at_name p (known env (means p)) (marked (flags (means p)) (weigh_each d env a ts))
-    weigh d env a (term (call w) ts p) = at_name p (known env (means p)) (marked (flags (means p)) (weigh_each d env a ts))
+    weigh d env a (term (name w) ts p) = at_name p (known env (means p)) (weigh_each d env a (flags (means p)) ts)
+    weigh d env a (term (call w) ts p) = at_name p (known env (means p)) (weigh_each d env a (flags (means p)) ts)
     weigh d env a (term box none p) = fixed 2 nothing
-    weigh d env a (term box (part t ts) p) = subscripted p (weigh d env a t) (total (weigh_each d env a ts))
+    weigh d env a (term box (part t ts) p) = subscripted p (weigh d env a t) (total (weigh_each d env a [] ts))
     weigh d env a (term angle none p) = fixed 2 nothing
-    weigh d env a (term angle (part t ts) p) = subscripted p (weigh d env a t) (total (weigh_each d env a ts))
+    weigh d env a (term angle (part t ts) p) = subscripted p (weigh d env a t) (total (weigh_each d env a [] ts))
     weigh d env a (term at ts p) = at_name p a []
     weigh d env a (term (except us) none p) = nothing
     weigh d env a (term (except us) (part t ts) p) = updates d env a (weigh d env a t) us
-    weigh d env a (term (quantifier all gs) ts p) = join (sets d env a gs) (total (weigh_each d env a ts))
-    weigh d env a (term (choice gs) ts p) = join (sets d env a gs) (total (weigh_each d env a ts))
-    weigh d env a (term (local ds) ts p) = join (bodies d env a ds) (total (weigh_each d (with_definitions d env a ds) a ts))
-    weigh d env a (term s ts p) = form_weight s p (total (weigh_each d env a ts))
+    weigh d env a (term (quantifier all gs) ts p) = join (sets d env a gs) (total (weigh_each d env a [] ts))
+    weigh d env a (term (choice gs) ts p) = join (sets d env a gs) (total (weigh_each d env a [] ts))
+    weigh d env a (term (local ds) ts p) = join (bodies d env a ds) (total (weigh_each d (with_definitions d env a ds) a [] ts))
+    weigh d env a (term s ts p) = form_weight s p (total (weigh_each d env a [] ts))
 
-    pub weigh_each : ℕ → Env → Known → Terms → List Weight
-    weigh_each d env a none = []
-    weigh_each d env a (part t ts) = weigh d env a t ∷ weigh_each d env a ts
+    -- expressions side by side, of which those with a flag are primed
+    pub weigh_each : ℕ → Env → Known → List Bool → Terms → List Weight
+    weigh_each d env a fs none = []
+    weigh_each d env a [] (part t ts) = weigh d env a t ∷ weigh_each d env a [] ts
+    weigh_each d env a (f ∷ fs) (part t ts) = primed_if f (weigh d env a t) ∷ weigh_each d env a fs ts
 
     pub sets : ℕ → Env → Known → Groups → Weight
     sets d env a end_groups = nothing
@@ -146,8 +148,8 @@ with_more d ps s = record s { env = with_parameters (means_in s) d s.env ps }
 abbrev pub weight_of : Names → ℕ → Known → Term → Weight
 weight_of s d k t = weigh (means_in s) (flags_in s) d s.env k t
 
-abbrev pub weights_of : Names → ℕ → Known → Terms → List Weight
-weights_of s d k ts = weigh_each (means_in s) (flags_in s) d s.env k ts
+abbrev pub weights_of : Names → ℕ → Known → List Bool → Terms → List Weight
+weights_of s d k fs ts = weigh_each (means_in s) (flags_in s) d s.env k fs ts
 
 -- the body of a definition among so many parameters
 abbrev pub body_weight : Names → ℕ → Known → List Decl → Term → Weight
@@ -201,12 +203,12 @@ bodies_of s d k ds = bodies (means_in s) (flags_in s) d s.env k ds
 
 -- a name with its arguments
 abbrev pub applied : Names → ℕ → Known → Place → Terms → Weight
-applied s d k p ts = at_name p (at_place s p) (marked (flags_in s (means_in s p)) (weights_of s d k ts))
+applied s d k p ts = at_name p (at_place s p) (weights_of s d k (flags_in s (means_in s p)) ts)
 
 -- an action with what stands behind it as its subscript
 abbrev pub acted : Names → ℕ → Known → Place → Terms → Weight
 acted s d k p none = fixed 2 nothing
-acted s d k p (part t ts) = subscripted p (weight_of s d k t) (total (weights_of s d k ts))
+acted s d k p (part t ts) = subscripted p (weight_of s d k t) (total (weights_of s d k [] ts))
 
 abbrev pub domain_weight : Names → ℕ → Known → Option Node → Weight
 domain_weight s d k None = nothing

@@ -239,12 +239,6 @@ at_name p (defined d l us b) ws =
 abbrev pub primed_if : Bool → Weight → Weight
 primed_if b w = if b then all_primed w else w
 
--- arguments, primed where these flags say so
-abbrev pub marked : List Bool → List Weight → List Weight
-marked [] ws = ws
-marked (b ∷ bs) [] = []
-marked (b ∷ bs) (w ∷ ws) = primed_if b w ∷ marked bs ws
-
 -- what a weight asks of the parameters round a definition
 abbrev pub asked_round : ℕ → Weight → Weight
 asked_round d w = fixed 0 (record { least = 0; uses = take d w.uses; faults = w.faults })

@@ -219,28 +219,15 @@ impl Definition {
     }
 }
 
-/// Primes the arguments that these flags name.
-fn mark(args: &mut Vec<Weight>, flags: &[bool])
-    ensures { args.new.items ≡ spec.marked flags.now args.old.items }
-{
-    for index in 0..flags.len().min(args.len()) {
-        args[index].prime(flags[index]);
-    }
-}
-
-/// A name at a place, with arguments that weigh so, of which it primes those that the flags name; one that is not known has the
-/// level of its arguments.
+/// A name at a place, with arguments that weigh so; one that is not known has the level of its arguments.
 pub fn at_name(
     alloc: Global,
     known: Option<&Known>,
-    flags: &[bool],
-    mut args: Vec<Weight>,
+    args: Vec<Weight>,
     place: Place,
 ) -> Result<Weight, Memory>
-    ensures { IfOk result (λ weight. weight
-        ≡ spec.at_name place (found known.entry) (spec.marked flags.now args.items)) }
+    ensures { IfOk result (λ weight. weight ≡ spec.at_name place (found known.entry) args.items) }
 {
-    mark(&mut args, flags);
     match known {
         None => total(alloc, args),
         Some(known) => match &known.definition {

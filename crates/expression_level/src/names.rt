@@ -88,7 +88,7 @@ impl<'a> Names<'a> {
     }
 
     /// Which parameters the definition primes that the name at a place stands for.
-    pub fn flags(&self, place: Place) -> &[bool]
+    pub fn flags(&self, place: Place) -> &'a [bool]
         ensures { result.now ≡ spec.flags_in self.now (spec.means_in self.now place) }
     {
         match self.symbols.at(place) {

@@ -1,6 +1,6 @@
 //! The weight of an expression.
 
-ghost use Rattle.std.specs.Prelude.{◌≡◌, ◌+◌, [], ◌∷◌, map, IfOk, OnOk};
+ghost use Rattle.std.specs.Prelude.{◌≡◌, ◌+◌, [], ◌∷◌, map, get_or, false, IfOk, OnOk};
 ghost use Rattle.tla_ast.specs.declared.tree.Node.{out-Node};
 ghost use Rattle.tla_ast.specs.declared.tree.Def.{out-Def};
 ghost use Rattle.tla_ast.specs.declared.tree.Group.{out-Group};
@@ -76,7 +76,7 @@ fn leaf(names: &mut Names, depth: usize, at: &Known, node: &Node) -> Result<Weig
         Form::AngleAct => action(names, depth, at, node),
         Form::At => {
             let none = Vec::new(names.alloc());
-            at_name(names.alloc(), Some(at), &[], none, node.place)
+            at_name(names.alloc(), Some(at), none, node.place)
         }
         Form::Except(_) => except(names, depth, at, node),
         Form::Quant { all: _, groups } => {
@@ -95,7 +95,7 @@ fn leaf(names: &mut Names, depth: usize, at: &Known, node: &Node) -> Result<Weig
             Ok(all)
         }
         _ => {
-            let parts = each(names, depth, at, node.parts.as_slice())?;
+            let parts = each(names, depth, at, &[], node.parts.as_slice())?;
             let mut all = total(names.alloc(), parts)?;
             apply(&node.form, node.place, &mut all)?;
             Ok(all)
@@ -103,16 +103,33 @@ fn leaf(names: &mut Names, depth: usize, at: &Known, node: &Node) -> Result<Weig
     }
 }
 
-/// Several expressions, one after another.
+/// Whether there is a flag at a position.
+fn is_flagged(flags: &[bool], position: usize) -> bool
+    ensures { result ≡ get_or flags.now position false }
+{
+    match flags.get(position) {
+        None => false,
+        Some(flag) => *flag,
+    }
+}
+
+/// Several expressions, one after another, of which those with a flag are primed.
 #[cycle(weigh)]
-fn each(names: &mut Names, depth: usize, at: &Known, nodes: &[Node]) -> Result<Vec<Weight>, Memory>
+fn each(
+    names: &mut Names,
+    depth: usize,
+    at: &Known,
+    flags: &[bool],
+    nodes: &[Node],
+) -> Result<Vec<Weight>, Memory>
     ensures same { OnOk result (names.new ≡ names.old) }
     ensures weights { IfOk result (λ each. each.items
-        ≡ spec.weights_of names.old depth at.now (terms_of (map term_of nodes.now))) }
+        ≡ spec.weights_of names.old depth at.now flags.now (terms_of (map term_of nodes.now))) }
 {
     let mut found = Vec::new(names.alloc());
-    for node in nodes {
-        let weight = weigh(names, depth, at, node)?;
+    for (index, node) in nodes.iter().enumerate() {
+        let mut weight = weigh(names, depth, at, node)?;
+        weight.prime(is_flagged(flags, index));
         found.push(weight)?;
     }
     Ok(found)
@@ -126,14 +143,9 @@ fn name(names: &mut Names, depth: usize, at: &Known, node: &Node) -> Result<Weig
         ≡ spec.applied names.old depth at.now (out-Node node.now).place
         (terms_of (map term_of (out-Node node.now).parts))) }
 {
-    let args = each(names, depth, at, node.parts.as_slice())?;
-    at_name(
-        names.alloc(),
-        names.at(node.place),
-        names.flags(node.place),
-        args,
-        node.place,
-    )
+    let flags = names.flags(node.place);
+    let args = each(names, depth, at, flags, node.parts.as_slice())?;
+    at_name(names.alloc(), names.at(node.place), args, node.place)
 }
 
 /// An action with its subscript.
@@ -149,7 +161,7 @@ fn action(names: &mut Names, depth: usize, at: &Known, node: &Node) -> Result<We
         return Ok(none);
     };
     let taken = weigh(names, depth, at, first)?;
-    let others = each(names, depth, at, rest)?;
+    let others = each(names, depth, at, &[], rest)?;
     let subscript = total(names.alloc(), others)?;
     act(taken, subscript, node.place)
 }
@@ -192,9 +204,9 @@ fn behind(
 ) -> Result<Weight, Memory>
     ensures same { OnOk result (names.new ≡ names.old) }
     ensures weight { IfOk result (λ weight. weight ≡ weights.join before
-        (weights.total (spec.weights_of names.old depth at.now (terms_of (map term_of (out-Node node.now).parts))))) }
+        (weights.total (spec.weights_of names.old depth at.now [] (terms_of (map term_of (out-Node node.now).parts))))) }
 {
-    let parts = each(names, depth, at, node.parts.as_slice())?;
+    let parts = each(names, depth, at, &[], node.parts.as_slice())?;
     let mut all = before;
     all.join(total(names.alloc(), parts)?)?;
     Ok(all)

@@ -6,7 +6,7 @@ use Rattle.tla_ast.specs.declared.tree.Path.{out-Path}
 use Rattle.plain_syntax.proofs.Forms.{is-name, is-call, is-at, is-quantifier, is-local}
 use Rattle.plain_syntax.specs.Syntax.{term_of, terms_of, each_group, each_key, each_def}
 use Rattle.expression_level.specs.Levels.{has_fault}
-use Rattle.expression_level.specs.Weights.{at_name, join, total, subscripted, asked_round}
+use Rattle.expression_level.specs.Weights.{at_name, primed_if, join, total, subscripted, asked_round}
 use Rattle.expression_level.specs.Weights.Known.{defined}
 use Rattle.expression_level.specs.Scope.{turned, weight_of, weights_of, sets_of, keys_on, bodies_of, updates_on, domain_weight, by_form, acted, left, with_name, with_more, with_all}
 use Rattle.expression_level.proofs.Uses.{joined-nothing}
@@ -87,7 +87,7 @@ leaf-returns-in_ok-before-in-Quant-clause-weight t c =
     let s = c.in_ok-before-in-Quant.ensures.weight ∙ ap (λ l. sets_of n d k (each_group l)) c.as_slice.ensures in
     because _ _ c.behind.result
     (ap (weight_of n d k) (is-quantifier c.args.node.now _ _ c.in-Quant.is)
-    ∙ sym (λ i. join (s i) (total (weights_of (c.in_ok-before-in-Quant.ensures.same i) d k (terms_of (map term_of (out-Node c.args.node.now).parts))))))
+    ∙ sym (λ i. join (s i) (total (weights_of (c.in_ok-before-in-Quant.ensures.same i) d k [] (terms_of (map term_of (out-Node c.args.node.now).parts))))))
     c.behind.ensures.weight
 
 pub leaf-returns-in_ok-before-in-Choose-clause-weight : goal.leaf-returns-in_ok-before-in-Choose-clause-weight
@@ -95,7 +95,7 @@ leaf-returns-in_ok-before-in-Choose-clause-weight t c =
     let n = c.args.names.now in let d = c.args.depth in let k = c.args.at.now in
     because _ _ c.behind-in-Choose.result
     (weighs-choose n d k c.args.node.now _ c.in-Choose.is
-    ∙ sym (λ i. join (c.in_ok-before-in-Choose.ensures.weight i) (total (weights_of (c.in_ok-before-in-Choose.ensures.same i) d k (terms_of (map term_of (out-Node c.args.node.now).parts))))))
+    ∙ sym (λ i. join (c.in_ok-before-in-Choose.ensures.weight i) (total (weights_of (c.in_ok-before-in-Choose.ensures.same i) d k [] (terms_of (map term_of (out-Node c.args.node.now).parts))))))
     c.behind-in-Choose.ensures.weight
 
 pub leaf-returns-in_ok-all-in-Let-clause-same : goal.leaf-returns-in_ok-all-in-Let-clause-same
@@ -111,7 +111,7 @@ leaf-returns-in_ok-all-in-Let-clause-weight t c =
     let s = c.in_ok-before-in-Let.ensures.weight ∙ ap (λ l. bodies_of n d k (each_def l)) c.as_slice-in-Let.ensures in
     let m = c.in_ok-before-in-Let.ensures.known ∙ ap (λ l. with_all d k (each_def l) n) c.as_slice-in-Let.ensures in
     c.in_ok-all-in-Let.ensures.weight
-    ∙ (λ i. join (s i) (total (weights_of (m i) d k (terms_of (map term_of (out-Node c.args.node.now).parts)))))
+    ∙ (λ i. join (s i) (total (weights_of (m i) d k [] (terms_of (map term_of (out-Node c.args.node.now).parts)))))
     ∙ sym (ap (weight_of n d k) (is-local c.args.node.now _ c.in-Let.is))
 
 pub leaf-returns-in_ok-apply-in_default : goal.leaf-returns-in_ok-apply-in_default
@@ -122,34 +122,34 @@ leaf-returns-in_ok-apply-in_default t c =
       weight =
           c.in_ok-apply-in_default.ensures
           ∙ ap (by_form (out-Node c.args.node.now).form (out-Node c.args.node.now).place)
-          (c.in_ok-all-in_default.ensures ∙ ap total (c.in_ok-parts-in_default.ensures.weights ∙ ap (λ l. weights_of n d k (terms_of (map term_of l))) c.as_slice-in_default.ensures))
+          (c.in_ok-all-in_default.ensures ∙ ap total (c.in_ok-parts-in_default.ensures.weights ∙ ap (λ l. weights_of n d k [] (terms_of (map term_of l))) c.as_slice-in_default.ensures))
           ∙ sym (weighs-plain n d k c.args.node.now o.not-Name o.not-Call o.not-BoxAct o.not-AngleAct o.not-At o.not-Except o.not-Quant o.not-Choose o.not-Let);
     }
 
-pub each-loop-node-preserved : goal.each-loop-node-preserved
-each-loop-node-preserved t c =
-    let n = c.args.names.now in let d = c.args.depth in let k = c.args.at.now in
+pub each-loop-index-preserved : goal.each-loop-index-preserved
+each-loop-index-preserved t c =
+    let n = c.args.names.now in let d = c.args.depth in let k = c.args.at.now in let x = c.loop-index.invariant in
+    let weight = c.in_ok-weight.ensures.weight ∙ ap (λ s. weight_of s d k (term_of c.index-nodes-index.result)) x.same in
     record {
-      same = c.in_ok-weight.ensures.same ∙ c.loop-node.invariant.same;
-      rest = each-next n d k _ c.loop-node.found.items c.push.new.self.items c.in_ok-weight.weight _ _ c.node-item.result c.loop-node.invariant.rest
-          (next-one c.args.nodes.now c.loop-node.node-index (c.loop-node.node-index + 1) c.node-item.result refl c.loop-node-test.true c.node-item.is)
-          (c.in_ok-weight.ensures.weight ∙ ap (λ s. weight_of s d k (term_of c.node-item.result)) c.loop-node.invariant.same) c.in_ok-push.ensures.items;
+      same = c.in_ok-weight.ensures.same ∙ x.same;
+      rest = each-next n d k _ c.loop-index.found.items c.push.new.self.items c.prime.new.self c.args.flags.now c.args.nodes.now c.loop-index.index c.index-nodes-index.result x.rest c.loop-index-test.true
+          c.index-nodes-index.is (c.prime.ensures ∙ (λ i. primed_if (c.is_flagged.ensures i) (weight i))) c.in_ok-push.ensures.items;
     }
 
 pub each-returns : goal.each-returns
 each-returns t c =
-    let n = c.args.names.now in let d = c.args.depth in let k = c.args.at.now in
+    let x = c.loop-index.invariant in
     record {
-      same = c.loop-node.invariant.same;
-      weights = sym (append-nil c.loop-node.found.items)
-          ∙ ap (λ l. c.loop-node.found.items ++ weights_of n d k (terms_of (map term_of l))) (sym (all-past c.args.nodes.now c.loop-node.node-index c.loop-node-test.false))
-          ∙ c.loop-node.invariant.rest;
+      same = x.same;
+      weights = sym (append-nil c.loop-index.found.items)
+          ∙ ap (λ l. c.loop-index.found.items ++ weights_of c.args.names.now c.args.depth c.args.at.now (drop c.loop-index.index c.args.flags.now) (terms_of (map term_of l))) (sym (all-past c.args.nodes.now c.loop-index.index c.loop-index-test.false))
+          ∙ x.rest;
     }
 
 pub action-returns : goal.action-returns
 action-returns t c =
     let n = c.args.names.now in let d = c.args.depth in let k = c.args.at.now in let p = (out-Node c.args.node.now).place in
-    let s = c.in_ok-subscript.ensures ∙ ap total (c.in_ok-others.ensures.weights ∙ ap (λ m. weights_of m d k (terms_of (map term_of c.in-Some.rest.now))) c.in_ok-taken.ensures.same) in
+    let s = c.in_ok-subscript.ensures ∙ ap total (c.in_ok-others.ensures.weights ∙ ap (λ m. weights_of m d k [] (terms_of (map term_of c.in-Some.rest.now))) c.in_ok-taken.ensures.same) in
     record {
       same = in-any-case c.act.result (c.in_ok-others.ensures.same ∙ c.in_ok-taken.ensures.same);
       weight = because _ _ c.act.result

@@ -11,10 +11,11 @@ invariant-weigh-loop-next l = record {
   order : fold (turned l.fn.names l.depth l.at) l.stack.items (map (λ n. term_of n.now) (drop l.next-index l.next-items)) ≡ weight_of l.fn.names l.depth l.at (term_of l.node) ∷ [];
 }
 
-abbrev pub invariant-each-loop-node : goal.invariant-each-loop-node
-invariant-each-loop-node l = record {
+abbrev pub invariant-each-loop-index : goal.invariant-each-loop-index
+invariant-each-loop-index l = record {
   same : l.names ≡ l.fn.names;
-  rest : l.found.items ++ weights_of l.fn.names l.depth l.at (terms_of (map term_of (drop l.node-index l.nodes))) ≡ weights_of l.fn.names l.depth l.at (terms_of (map term_of l.nodes));
+  rest : l.found.items ++ weights_of l.fn.names l.depth l.at (drop l.index l.flags) (terms_of (map term_of (drop l.index l.nodes)))
+      ≡ weights_of l.fn.names l.depth l.at l.flags (terms_of (map term_of l.nodes));
 }
 
 abbrev pub invariant-sets-loop-group : goal.invariant-sets-loop-group
