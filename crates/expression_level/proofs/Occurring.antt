@@ -97,7 +97,7 @@ module _ (i : ℕ) where
   sees-lifted : (x : Weight) (o : Occurrence) → Sees x o → Sees (lifted x) o
   sees-lifted x o s = seen-same raised_use (λ u. refl) i x.uses ∙ s
 
-  sees-action : (p : Place) (x y : Weight) (o q : Occurrence) → Sees x o → Sees y q → Sees (w.subscripted p x y) (beside o (primed_if true q))
+  sees-action : (p : Place) (x y : Weight) (o q : Occurrence) → Sees x o → Sees y q → Sees (w.action_weight p x (all_primed y)) (beside o (primed_if true q))
   sees-action p x y o q s t =
       sees-fixed 2 (join (w.capped 2 x) (w.capped 1 (all_primed y))) (beside o (primed_if true q))
       (sees-join (w.capped 2 x) (w.capped 1 (all_primed y)) o (primed_if true q) (sees-limited 2 p x o s) (sees-limited 1 p (all_primed y) (primed_if true q) (sees-primed true y q t)))

@@ -1,6 +1,7 @@
 -- The walk of the code over an expression gives its weight.
 use Rattle.std.proofs.Common.{◌≡◌, ◌≤◌, ◌<◌, ◌++◌, ◌+◌, ◌-◌, ℕ, zero, suc, Bool, true, false, if◌then◌else◌, List, [], ◌∷◌, fold, map, take, drop, length, get_or, Option, Some, None, refl, sym, ap, subst, ◌∙◌, arith, append_assoc, append-nil, length-append, drop-cons, add-one}
 use Rattle.std.proofs.lemmas.Grind.{fold-append, common_steps}
+use Rattle.std.proofs.lemmas.List.{length-map}
 use Rattle.std.specs.Prelude.{Result, Ok, Err, IfOk, OnOk}
 use Rattle.std.specs.Borrow.{Bor}
 use Rattle.core_expr.specs.declared.memory.Memory.{Memory}
@@ -23,9 +24,9 @@ use Rattle.plain_syntax.specs.Plain.Terms.{none, part}
 use Rattle.plain_syntax.specs.Plain.{Shape as s}
 use Rattle.plain_syntax.specs.Syntax.{Held, shape_of, key_of, def_of, group_of, node_of, path_of, term_of, terms_of, keys_of, key_keys, each_key, groups_of, each_group, each_def, with_domain, set_of, except_of}
 use Rattle.plain_syntax.specs.Order.{order, orders, joined_by, joins}
-use Rattle.plain_syntax.proofs.Forms.{held, by-form, parts_in, is-name, is-call, is-box, is-angle, is-at, is-except, is-quantifier, is-choice, is-local, is-path, is-key, is-field-key, is-group, is-def}
+use Rattle.plain_syntax.proofs.Forms.{held, by-form, parts_in, is-name, is-call, is-except, is-quantifier, is-choice, is-local, is-path, is-key, is-field-key, is-group, is-def}
 use Rattle.expression_level.specs.Weights.{Weight, Known, primed_if, join, total, nothing, at_name, form_weight, result_so_far, asked_round}
-use Rattle.expression_level.specs.Scope.{Names, applied, weight_of, weights_of, turned, count, ruled, by_form, acted, updates_on, excepted, sets_of, keys_on, bodies_of, domain_weight, with_definition, with_all, body_weight}
+use Rattle.expression_level.specs.Scope.{Names, applied, weight_of, weights_of, turned, count, ruled, by_form, updates_on, excepted, sets_of, keys_on, bodies_of, domain_weight, with_definition, with_all, body_weight}
 use Rattle.expression_level.proofs.Uses.{join-assoc, nothing-joined, joined-nothing}
 
 -- ---- loops
@@ -126,18 +127,13 @@ module _ (c : Names) (d : ℕ) (k : Known) where
       let o : Turns stack ts p g (joins f) (held f) = subst (λ h. Turns stack ts p g (joins f) (held h)) (roll-out-Form f) (turns-rolled stack ts p (out-Form f)) in
       subst (λ t. turned c d k stack t ≡ (if joins f then Operated stack (length ts) g else stack ++ weight_of c d k t ∷ [])) (sym (by-form n (held f) refl)) o
 
-  mapped : (ns : List Node) → length (map term_of ns) ≡ length ns
-  mapped [] = refl
-  mapped (n ∷ ns) = ap suc (mapped ns)
-
   -- an operator over the weights that stand last on a stack
-  pub turns-operator : (n : Node) (stack left next : List Weight) (m : ℕ) (x : Weight) → joins (out-Node n).form ≡ true → m ≡ length (out-Node n).parts
-      → left ≡ take (length stack - m) stack → x ≡ by_form (out-Node n).form (out-Node n).place (total (drop (length stack - m) stack)) → next ≡ left ++ x ∷ []
-      → next ≡ turned c d k stack (term_of n)
-  turns-operator n stack left next m x j e l w a =
+  pub turns-operator : (n : Node) (stack left next : List Weight) (x : Weight) → joins (out-Node n).form ≡ true → left ≡ take (length stack - length (out-Node n).parts) stack
+      → x ≡ by_form (out-Node n).form (out-Node n).place (total (drop (length stack - length (out-Node n).parts) stack)) → next ≡ left ++ x ∷ [] → next ≡ turned c d k stack (term_of n)
+  turns-operator n stack left next x j l w a =
       let g : List Weight → Weight = λ ws. by_form (out-Node n).form (out-Node n).place (total ws) in
       a ∙ (λ i. l i ++ w i ∷ [])
-      ∙ ap (λ q. Operated stack q g) (e ∙ sym (mapped (out-Node n).parts))
+      ∙ ap (λ q. Operated stack q g) (sym (length-map (out-Node n).parts term_of))
       ∙ ap (λ b. if b then Operated stack (length (map term_of (out-Node n).parts)) g else stack ++ weight_of c d k (term_of n) ∷ []) (sym j)
       ∙ sym (turns-node n stack)
 
@@ -150,23 +146,6 @@ module _ (c : Names) (d : ℕ) (k : Known) where
       ∙ sym (turns-node n stack)
 
   -- ---- other forms
-
-  parts-weights : Node → List Weight
-  parts-weights n = weights_of c d k [] (parts_in n)
-
-  acts-box : (ts : Terms) (p : Place) → weight_of c d k (term s.box ts p) ≡ acted c d k p ts
-  acts-box none p = refl
-  acts-box (part t ts) p = refl
-
-  acts-angle : (ts : Terms) (p : Place) → weight_of c d k (term s.angle ts p) ≡ acted c d k p ts
-  acts-angle none p = refl
-  acts-angle (part t ts) p = refl
-
-  pub weighs-box : (n : Node) → (out-Node n).form ≡ form.BoxAct → weight_of c d k (term_of n) ≡ acted c d k (out-Node n).place (parts_in n)
-  weighs-box n e = ap (weight_of c d k) (is-box n e) ∙ acts-box (parts_in n) (out-Node n).place
-
-  pub weighs-angle : (n : Node) → (out-Node n).form ≡ form.AngleAct → weight_of c d k (term_of n) ≡ acted c d k (out-Node n).place (parts_in n)
-  weighs-angle n e = ap (weight_of c d k) (is-angle n e) ∙ acts-angle (parts_in n) (out-Node n).place
 
   sets-made : (ns : List Decl) (o : Option Node) (rest : Groups) → sets_of c d k (with_domain ns (set_of o) rest) ≡ join (domain_weight c d k o) (sets_of c d k rest)
   sets-made ns None rest = sym (nothing-joined (sets_of c d k rest))
@@ -260,35 +239,31 @@ module _ (c : Names) (d : ℕ) (k : Known) where
   no-more-values [] x = refl
   no-more-values (p ∷ ps) x = refl
 
-  -- ---- definitions
-
   -- ---- all other forms
 
-  plain : (f : Form) (ts : List Term) (p : Place) → ((w : Text) → f ≡ form.Name w → ⊥) → ((w : Text) → f ≡ form.Call w → ⊥) → (f ≡ form.BoxAct → ⊥) → (f ≡ form.AngleAct → ⊥)
-      → (f ≡ form.At → ⊥) → ((ps : List Path) → f ≡ form.Except ps → ⊥) → ((a : Bool) (gs : List Group) → f ≡ form.Quant a gs → ⊥) → ((g : Group) → f ≡ form.Choose g → ⊥)
-      → ((ds : List Def) → f ≡ form.Let ds → ⊥) → weight_of c d k (held f ts p) ≡ by_form f p (total (weights_of c d k [] (terms_of ts)))
+  abbrev pub IsPlain : Form → Type 0
+  IsPlain f = ((w : Text) → f ≡ form.Name w → ⊥) × ((w : Text) → f ≡ form.Call w → ⊥) × (f ≡ form.BoxAct → ⊥) × (f ≡ form.AngleAct → ⊥) × (f ≡ form.At → ⊥) × ((ps : List Path) → f ≡ form.Except ps → ⊥)
+      × ((a : Bool) (gs : List Group) → f ≡ form.Quant a gs → ⊥) × ((g : Group) → f ≡ form.Choose g → ⊥) × ((ds : List Def) → f ≡ form.Let ds → ⊥)
+
+  plain : (f : Form) (ts : List Term) (p : Place) → IsPlain f → weight_of c d k (held f ts p) ≡ by_form f p (total (weights_of c d k [] (terms_of ts)))
   unfolding held
-  plain f ts p hn hc hb ha ht he hq hg hl =
+  plain f ts p h =
       (elim (out-Form f) as (λ x. out-Form f ≡ x → weight_of c d k (held f ts p) ≡ by_form f p (total (weights_of c d k [] (terms_of ts)))) [
-        | Form-F.Name w ↦ λ e. absurd (hn w (sym (roll-out-Form f) ∙ ap roll-Form e ∙ rolls-Name w))
-        | Form-F.Call w ↦ λ e. absurd (hc w (sym (roll-out-Form f) ∙ ap roll-Form e ∙ rolls-Call w))
-        | Form-F.BoxAct ↦ λ e. absurd (hb (sym (roll-out-Form f) ∙ ap roll-Form e ∙ rolls-BoxAct))
-        | Form-F.AngleAct ↦ λ e. absurd (ha (sym (roll-out-Form f) ∙ ap roll-Form e ∙ rolls-AngleAct))
-        | Form-F.Form::At ↦ λ e. absurd (ht (sym (roll-out-Form f) ∙ ap roll-Form e ∙ rolls-At))
-        | Form-F.Except ps ↦ λ e. absurd (he ps (sym (roll-out-Form f) ∙ ap roll-Form e ∙ rolls-Except ps))
-        | Form-F.Quant a gs ↦ λ e. absurd (hq a gs (sym (roll-out-Form f) ∙ ap roll-Form e ∙ rolls-Quant a gs))
-        | Form-F.Choose g ↦ λ e. absurd (hg g (sym (roll-out-Form f) ∙ ap roll-Form e ∙ rolls-Choose g))
-        | Form-F.Let ds ↦ λ e. absurd (hl ds (sym (roll-out-Form f) ∙ ap roll-Form e ∙ rolls-Let ds))
+        | Form-F.Name w ↦ λ e. absurd (h.0 w (sym (roll-out-Form f) ∙ ap roll-Form e ∙ rolls-Name w))
+        | Form-F.Call w ↦ λ e. absurd (h.1 w (sym (roll-out-Form f) ∙ ap roll-Form e ∙ rolls-Call w))
+        | Form-F.BoxAct ↦ λ e. absurd (h.2 (sym (roll-out-Form f) ∙ ap roll-Form e ∙ rolls-BoxAct))
+        | Form-F.AngleAct ↦ λ e. absurd (h.3 (sym (roll-out-Form f) ∙ ap roll-Form e ∙ rolls-AngleAct))
+        | Form-F.Form::At ↦ λ e. absurd (h.4 (sym (roll-out-Form f) ∙ ap roll-Form e ∙ rolls-At))
+        | Form-F.Except ps ↦ λ e. absurd (h.5 ps (sym (roll-out-Form f) ∙ ap roll-Form e ∙ rolls-Except ps))
+        | Form-F.Quant a gs ↦ λ e. absurd (h.6 a gs (sym (roll-out-Form f) ∙ ap roll-Form e ∙ rolls-Quant a gs))
+        | Form-F.Choose g ↦ λ e. absurd (h.7 g (sym (roll-out-Form f) ∙ ap roll-Form e ∙ rolls-Choose g))
+        | Form-F.Let ds ↦ λ e. absurd (h.8 ds (sym (roll-out-Form f) ∙ ap roll-Form e ∙ rolls-Let ds))
         | _ ↦ λ e. ap (λ (h : Held). weight_of c d k (h ts p)) (ap held (sym (roll-out-Form f)) ∙ ap (λ x. held (roll-Form x)) e ∙ fold-roll-Form _ _ _ _ _ _ shape_of key_of def_of group_of node_of path_of _)
             ∙ ap (λ x. ruled x p (total (weights_of c d k [] (terms_of ts)))) (sym e)
       ]) refl
 
-  pub weighs-plain : (n : Node) → ((w : Text) → (out-Node n).form ≡ form.Name w → ⊥) → ((w : Text) → (out-Node n).form ≡ form.Call w → ⊥) → ((out-Node n).form ≡ form.BoxAct → ⊥)
-      → ((out-Node n).form ≡ form.AngleAct → ⊥) → ((out-Node n).form ≡ form.At → ⊥) → ((ps : List Path) → (out-Node n).form ≡ form.Except ps → ⊥)
-      → ((a : Bool) (gs : List Group) → (out-Node n).form ≡ form.Quant a gs → ⊥) → ((g : Group) → (out-Node n).form ≡ form.Choose g → ⊥) → ((ds : List Def) → (out-Node n).form ≡ form.Let ds → ⊥)
-      → weight_of c d k (term_of n) ≡ by_form (out-Node n).form (out-Node n).place (total (weights_of c d k [] (parts_in n)))
-  weighs-plain n hn hc hb ha ht he hq hg hl =
-      ap (weight_of c d k) (by-form n (held (out-Node n).form) refl) ∙ plain (out-Node n).form (map term_of (out-Node n).parts) (out-Node n).place hn hc hb ha ht he hq hg hl
+  pub weighs-plain : (n : Node) → IsPlain (out-Node n).form → weight_of c d k (term_of n) ≡ by_form (out-Node n).form (out-Node n).place (total (weights_of c d k [] (parts_in n)))
+  weighs-plain n h = ap (weight_of c d k) (by-form n (held (out-Node n).form) refl) ∙ plain (out-Node n).form (map term_of (out-Node n).parts) (out-Node n).place h
 
 -- ---- one definition after another
 

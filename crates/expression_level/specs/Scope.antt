@@ -22,7 +22,7 @@ use Rattle.plain_syntax.specs.Syntax.{term_of, keys_of, updates_of}
 use Rattle.symbol_table.specs.Symbols.{symbol_at}
 use Rattle.symbol_table.specs.declared.entry.Entry.{Entry}
 use Rattle.expression_level.specs.Store.{flags_of}
-use Rattle.expression_level.specs.Weights.{Known, Weight, parameter, definition, result_so_far, asked_round, nothing, join, total, primed_if, at_name, subscripted, all_primed, prefix_weight, infix_weight, form_weight, lifted, limited, fixed}
+use Rattle.expression_level.specs.Weights.{Known, Weight, parameter, definition, result_so_far, asked_round, nothing, join, total, primed_if, at_name, acted, all_primed, prefix_weight, infix_weight, form_weight, lifted, limited, fixed}
 use Rattle.expression_level.specs.Weights.Known.{arguments}
 use Rattle.expression_level.specs.declared.names.Local.{Local}
 
@@ -64,10 +64,8 @@ module _ (means : Place → Option ℕ) (flags : Option ℕ → List Bool) where
     pub weigh : ℕ → Env → Known → Term → Weight
     weigh d env a (term (name w) ts p) = at_name p (known env (means p)) (weigh_each d env a (flags (means p)) ts)
     weigh d env a (term (call w) ts p) = at_name p (known env (means p)) (weigh_each d env a (flags (means p)) ts)
-    weigh d env a (term box none p) = fixed 2 nothing
-    weigh d env a (term box (part t ts) p) = subscripted p (weigh d env a t) (total (weigh_each d env a [] ts))
-    weigh d env a (term angle none p) = fixed 2 nothing
-    weigh d env a (term angle (part t ts) p) = subscripted p (weigh d env a t) (total (weigh_each d env a [] ts))
+    weigh d env a (term box ts p) = acted p (weigh_each d env a [] ts)
+    weigh d env a (term angle ts p) = acted p (weigh_each d env a [] ts)
     weigh d env a (term at ts p) = at_name p a []
     weigh d env a (term (except us) none p) = nothing
     weigh d env a (term (except us) (part t ts) p) = updates d env a (weigh d env a t) us
@@ -204,11 +202,6 @@ bodies_of s d k ds = bodies (means_in s) (flags_in s) d s.env k ds
 -- a name with its arguments
 abbrev pub applied : Names → ℕ → Known → Place → Terms → Weight
 applied s d k p ts = at_name p (at_place s p) (weights_of s d k (flags_in s (means_in s p)) ts)
-
--- an action with what stands behind it as its subscript
-abbrev pub acted : Names → ℕ → Known → Place → Terms → Weight
-acted s d k p none = fixed 2 nothing
-acted s d k p (part t ts) = subscripted p (weight_of s d k t) (total (weights_of s d k [] ts))
 
 abbrev pub domain_weight : Names → ℕ → Known → Option Node → Weight
 domain_weight s d k None = nothing

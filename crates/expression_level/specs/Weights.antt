@@ -145,8 +145,10 @@ form_weight s p w = w
 abbrev pub action_weight : Place → Weight → Weight → Weight
 action_weight p a v = fixed 2 (with_fault (nat_lt 2 a.least || nat_lt 1 v.least) p (join (capped 2 a) (capped 1 v)))
 
-abbrev pub subscripted : Place → Weight → Weight → Weight
-subscripted p a v = action_weight p a (all_primed v)
+-- an action with what stands behind it as its subscript, which it primes
+abbrev pub acted : Place → List Weight → Weight
+acted p [] = fixed 2 nothing
+acted p (w ∷ ws) = action_weight p w (all_primed (total ws))
 
 -- ---- names
 

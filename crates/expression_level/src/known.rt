@@ -4,7 +4,7 @@ ghost use Rattle.std.specs.Prelude.{◌≡◌, false, [], map, take, drop, IfOk}
 ghost use Rattle.expression_level.specs.Levels.{has_fault};
 ghost use Rattle.expression_level.specs.Weights as spec;
 ghost use Rattle.expression_level.specs.Weights.{Known as seen};
-ghost use Rattle.expression_level.specs.Store.{found};
+ghost use Rattle.expression_level.specs.Store.{changed, found};
 
 use crate::weight::{Change, Use, Weight, change_all};
 use core_expr::Memory;
@@ -37,15 +37,15 @@ impl Model for Known {
     ghost view = { λ k. known_of k.definition };
 }
 
-/// The first uses.
-fn front(uses: &[Use], depth: usize) -> &[Use]
-    ensures { result.now ≡ take depth uses.now }
+/// The first uses, changed.
+fn copied(alloc: Global, uses: &[Use], depth: usize, change: Change) -> Result<Vec<Use>, Memory>
+    ensures { IfOk result (λ made. made.items ≡ map (changed change) (take depth uses.now)) }
 {
-    if depth < uses.len() {
-        &uses[..depth]
-    } else {
-        uses
-    }
+    let mut made = Vec::new(alloc);
+    made.extend_from_slice(uses)?;
+    made.truncate(depth);
+    change_all(&mut made, change);
+    Ok(made)
 }
 
 /// The uses behind the first.
@@ -110,14 +110,11 @@ impl Known {
     pub fn result_so_far(alloc: Global, depth: usize, weight: &Weight) -> Result<Known, Memory>
         ensures { IfOk result (λ known. known ≡ spec.result_so_far depth weight.now) }
     {
-        let mut uses = Vec::new(alloc);
-        uses.extend_from_slice(front(&weight.uses, depth))?;
-        change_all(&mut uses, Change::Unlimited);
         Ok(Known {
             definition: Some(Definition {
                 depth,
                 least: weight.least,
-                uses,
+                uses: copied(alloc, &weight.uses, depth, Change::Unlimited)?,
                 has_fault: false,
             }),
         })
@@ -141,9 +138,7 @@ pub fn defined(
         mut uses,
         faults,
     } = body;
-    let mut round = Vec::new(alloc);
-    round.extend_from_slice(front(&uses, depth))?;
-    change_all(&mut round, Change::Kept);
+    let round = copied(alloc, &uses, depth, Change::Kept)?;
     uses.truncate(inner);
     let known = Known {
         definition: Some(Definition {
@@ -191,12 +186,9 @@ impl Definition {
         ensures { IfOk result (λ weight. weight
             ≡ record { least = self.now.least; uses = map spec.named (take self.now.depth self.now.uses.items); faults = [] }) }
     {
-        let mut uses = Vec::new(alloc);
-        uses.extend_from_slice(front(&self.uses, self.depth))?;
-        change_all(&mut uses, Change::Named);
         Ok(Weight {
             least: self.least,
-            uses,
+            uses: copied(alloc, &self.uses, self.depth, Change::Named)?,
             faults: Vec::new(alloc),
         })
     }

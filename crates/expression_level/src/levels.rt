@@ -99,8 +99,17 @@ impl Levels {
             (spec.definition_level (symbol_at symbols.now) (levels_of self.old) params.now (term_of body.now))
             (levels_of self.old)) }
     {
-        let (known, found) = body_known(alloc, &self.known, params, body, symbols, entries)?;
-        keep(&mut self.known, number, known)?;
+        let mut names = Names::new(alloc, symbols, entries, &self.known);
+        let inner = names.bind_parameters(0, params)?;
+        let at = Known::constant(alloc, 0);
+        let weight = weigh(&mut names, inner, &at, body)?;
+        let found = Defined {
+            level: weight.least,
+            primed: weight.primed(alloc, inner)?,
+        };
+        let (kept, _asked) = defined(alloc, 0, inner, weight)?;
+        drop(names);
+        keep(&mut self.known, number, kept)?;
         Ok(found)
     }
 
@@ -146,33 +155,4 @@ fn keep(known: &mut Vec<Known>, number: u64, value: Known) -> Result<(), Memory>
     reach(known, number)?;
     known[number] = value;
     Ok(())
-}
-
-/// What a definition has, as it is kept and as it is answered.
-fn body_known(
-    alloc: Global,
-    known: &[Known],
-    params: &[Decl],
-    body: &Node,
-    symbols: &Symbols,
-    entries: &[Entry],
-) -> Result<(Known, Defined), Memory>
-    ensures closed { IfOk result (λ made. depth_of made.0 ≡ 0) }
-    ensures known { AllClosed known.now → IfOk result (λ made. function_of [] made.0
-        ≡ spec.definition_level (symbol_at symbols.now) (levels_of known.now) params.now (term_of body.now)) }
-    ensures level { AllClosed known.now → IfOk result (λ made. made.1.level ≡ (spec.definition_level
-        (symbol_at symbols.now) (levels_of known.now) params.now (term_of body.now) []).0) }
-    ensures primed { AllClosed known.now → IfOk result (λ made. made.1.primed ≡ primed_parameters
-        (symbol_at symbols.now) (flags_of entries.now) params.now (term_of body.now)) }
-{
-    let mut names = Names::new(alloc, symbols, entries, known);
-    let inner = names.bind_parameters(0, params)?;
-    let at = Known::constant(alloc, 0);
-    let weight = weigh(&mut names, inner, &at, body)?;
-    let found = Defined {
-        level: weight.least,
-        primed: weight.primed(alloc, inner)?,
-    };
-    let (kept, _asked) = defined(alloc, 0, inner, weight)?;
-    Ok((kept, found))
 }

@@ -48,13 +48,7 @@ fn turn(
         ≡ spec.turned names.old depth at.now stack.old.items (term_of node.now)) }
 {
     if is_operator(&node.form) {
-        let weight = operate(
-            names.alloc(),
-            stack,
-            &node.form,
-            node.place,
-            node.parts.len(),
-        )?;
+        let weight = operate(names.alloc(), stack, node)?;
         stack.push(weight)?;
         return Ok(());
     }
@@ -152,8 +146,8 @@ fn name(names: &mut Names, depth: usize, at: &Known, node: &Node) -> Result<Weig
 #[cycle(weigh)]
 fn action(names: &mut Names, depth: usize, at: &Known, node: &Node) -> Result<Weight, Memory>
     ensures same { OnOk result (names.new ≡ names.old) }
-    ensures weight { IfOk result (λ weight. weight ≡ spec.acted names.old depth at.now (out-Node node.now).place
-        (terms_of (map term_of (out-Node node.now).parts))) }
+    ensures weight { IfOk result (λ weight. weight ≡ weights.acted (out-Node node.now).place
+        (spec.weights_of names.old depth at.now [] (terms_of (map term_of (out-Node node.now).parts)))) }
 {
     let Some((first, rest)) = node.parts.as_slice().split_first() else {
         let mut none = Weight::nothing(names.alloc());

@@ -3,15 +3,15 @@ use Rattle.tla_ast.specs.declared.tree.Node.{out-Node, size-Node}
 use Rattle.tla_ast.specs.declared.tree.Def.{out-Def}
 use Rattle.tla_ast.specs.declared.tree.Group.{out-Group}
 use Rattle.tla_ast.specs.declared.tree.Path.{out-Path}
-use Rattle.plain_syntax.proofs.Forms.{is-name, is-call, is-at, is-quantifier, is-local}
+use Rattle.plain_syntax.proofs.Forms.{is-name, is-call, is-box, is-angle, is-at, is-quantifier, is-local}
 use Rattle.plain_syntax.specs.Syntax.{term_of, terms_of, each_group, each_key, each_def}
 use Rattle.expression_level.specs.Levels.{has_fault}
-use Rattle.expression_level.specs.Weights.{at_name, primed_if, join, total, subscripted, asked_round}
+use Rattle.expression_level.specs.Weights.{at_name, primed_if, join, total, acted, action_weight, all_primed, asked_round}
 use Rattle.expression_level.specs.Weights.Known.{defined}
-use Rattle.expression_level.specs.Scope.{turned, weight_of, weights_of, sets_of, keys_on, bodies_of, updates_on, domain_weight, by_form, acted, left, with_name, with_more, with_all}
+use Rattle.expression_level.specs.Scope.{turned, weight_of, weights_of, sets_of, keys_on, bodies_of, updates_on, domain_weight, by_form, left, with_name, with_more, with_all}
 use Rattle.expression_level.proofs.Uses.{joined-nothing}
 use Rattle.expression_level.proofs.Locals.{definitions-left, parameters-left}
-use Rattle.expression_level.proofs.Walks.{in-order, turns-operator, turns-leaf, turn-next, weighs-box, weighs-angle, weighs-choose, weighs-plain, rest-next, rest-ends, sets-group, keys-split, weighs-key, weighs-field-key, each-next, updates-next, no-more-values, except-begins, except-empty, bodies-step, known-step, next-one, all-past, last-one, because, in-any-case}
+use Rattle.expression_level.proofs.Walks.{in-order, turns-operator, turns-leaf, turn-next, weighs-choose, weighs-plain, rest-next, rest-ends, sets-group, keys-split, weighs-key, weighs-field-key, each-next, updates-next, no-more-values, except-begins, except-empty, bodies-step, known-step, next-one, all-past, last-one, because, in-any-case}
 use Rattle.expression_level.proofs.walk.+weigh.Goals as goal
 
 pub weigh-loop-next-init : goal.weigh-loop-next-init
@@ -57,7 +57,7 @@ turn-returns-clause-turned t c =
 
 pub turn-returns-then-is_operator-clause-turned : goal.turn-returns-then-is_operator-clause-turned
 turn-returns-then-is_operator-clause-turned t c =
-    turns-operator c.args.names.now c.args.depth c.args.at.now c.args.node.now c.args.stack.now.items c.operate.new.stack.items _ c.len.result c.in_ok-weight.weight (sym c.if-is_operator.ensures) c.len.ensures
+    turns-operator c.args.names.now c.args.depth c.args.at.now c.args.node.now c.args.stack.now.items c.operate.new.stack.items _ c.in_ok-weight.weight (sym c.if-is_operator.ensures)
     c.in_ok-weight.ensures.taken c.in_ok-weight.ensures.weight c.in_ok-push.ensures.items
 
 pub leaf-returns-in-Name-clause-weight : goal.leaf-returns-in-Name-clause-weight
@@ -67,11 +67,11 @@ pub leaf-returns-in-Call-clause-weight : goal.leaf-returns-in-Call-clause-weight
 leaf-returns-in-Call-clause-weight t c = because _ _ c.name-in-Call.result (ap (weight_of c.args.names.now c.args.depth c.args.at.now) (is-call c.args.node.now _ c.in-Call.is)) c.name-in-Call.ensures.weight
 
 pub leaf-returns-in-BoxAct-clause-weight : goal.leaf-returns-in-BoxAct-clause-weight
-leaf-returns-in-BoxAct-clause-weight t c = because _ _ c.action.result (weighs-box c.args.names.now c.args.depth c.args.at.now c.args.node.now c.in-BoxAct.is) c.action.ensures.weight
+leaf-returns-in-BoxAct-clause-weight t c = because _ _ c.action.result (ap (weight_of c.args.names.now c.args.depth c.args.at.now) (is-box c.args.node.now c.in-BoxAct.is)) c.action.ensures.weight
 
 pub leaf-returns-in-AngleAct-clause-weight : goal.leaf-returns-in-AngleAct-clause-weight
 leaf-returns-in-AngleAct-clause-weight t c =
-    because _ _ c.action-in-AngleAct.result (weighs-angle c.args.names.now c.args.depth c.args.at.now c.args.node.now c.in-AngleAct.is) c.action-in-AngleAct.ensures.weight
+    because _ _ c.action-in-AngleAct.result (ap (weight_of c.args.names.now c.args.depth c.args.at.now) (is-angle c.args.node.now c.in-AngleAct.is)) c.action-in-AngleAct.ensures.weight
 
 pub leaf-returns-in-At-clause-weight : goal.leaf-returns-in-At-clause-weight
 leaf-returns-in-At-clause-weight t c =
@@ -123,7 +123,7 @@ leaf-returns-in_ok-apply-in_default t c =
           c.in_ok-apply-in_default.ensures
           ∙ ap (by_form (out-Node c.args.node.now).form (out-Node c.args.node.now).place)
           (c.in_ok-all-in_default.ensures ∙ ap total (c.in_ok-parts-in_default.ensures.weights ∙ ap (λ l. weights_of n d k [] (terms_of (map term_of l))) c.as_slice-in_default.ensures))
-          ∙ sym (weighs-plain n d k c.args.node.now o.not-Name o.not-Call o.not-BoxAct o.not-AngleAct o.not-At o.not-Except o.not-Quant o.not-Choose o.not-Let);
+          ∙ sym (weighs-plain n d k c.args.node.now (o.not-Name, o.not-Call, o.not-BoxAct, o.not-AngleAct, o.not-At, o.not-Except, o.not-Quant, o.not-Choose, o.not-Let));
     }
 
 pub each-loop-index-preserved : goal.each-loop-index-preserved
@@ -153,8 +153,8 @@ action-returns t c =
     record {
       same = in-any-case c.act.result (c.in_ok-others.ensures.same ∙ c.in_ok-taken.ensures.same);
       weight = because _ _ c.act.result
-          (ap (λ l. acted n d k p (terms_of (map term_of l))) (sym c.as_slice.ensures ∙ c.in-Some.ensures.cases.0)
-          ∙ sym (λ i. subscripted p (c.in_ok-taken.ensures.weight i) (s i)))
+          (ap (λ l. acted p (weights_of n d k [] (terms_of (map term_of l)))) (sym c.as_slice.ensures ∙ c.in-Some.ensures.cases.0)
+          ∙ sym (λ i. action_weight p (c.in_ok-taken.ensures.weight i) (all_primed (s i))))
           c.act.ensures;
     }
 
