@@ -228,11 +228,11 @@ module _ (c : Names) (d : ℕ) (k : Known) where
       empty [] l = refl
       empty (n ∷ ns) l = absurd (omega (arith, l))
 
-  pub turn-next : (all : List Weight) (stack next : List Weight) (xs : List (Bor Node)) (i : ℕ) (x : Bor Node) (s : Names) → fold (turned c d k) stack (map (λ n. term_of n.now) (drop i xs)) ≡ all
-      → i < length xs → x ≡ get_or xs i x → s ≡ c → next ≡ turned s d k stack (term_of x.now) → fold (turned c d k) next (map (λ n. term_of n.now) (drop (i + 1) xs)) ≡ all
-  turn-next all stack next xs i x s h l e q a =
+  pub turn-next : (all : List Weight) (stack next : List Weight) (xs : List (Bor Node)) (i : ℕ) (x : Bor Node) → fold (turned c d k) stack (map (λ n. term_of n.now) (drop i xs)) ≡ all
+      → i < length xs → x ≡ get_or xs i x → next ≡ turned c d k stack (term_of x.now) → fold (turned c d k) next (map (λ n. term_of n.now) (drop (i + 1) xs)) ≡ all
+  turn-next all stack next xs i x h l e a =
       let n = next-one xs i (i + 1) x refl l e in
-      ap (λ z. fold (turned c d k) z (map (λ n. term_of n.now) (drop (i + 1) xs))) (a ∙ ap (λ z. turned z d k stack (term_of x.now)) q)
+      ap (λ z. fold (turned c d k) z (map (λ n. term_of n.now) (drop (i + 1) xs))) a
       ∙ ap (λ z. fold (turned c d k) stack (map (λ n. term_of n.now) z)) (sym n) ∙ h
 
   pub no-more-values : (ps : List Path) (x : Weight) → updates_on c d k ps [] x ≡ x

@@ -26,35 +26,17 @@ pub fn weigh(names: &mut Names, depth: usize, at: &Known, node: &Node) -> Result
     let mut stack = Vec::new(names.alloc());
     let nodes = operator_order(names.alloc(), node)?;
     for next in nodes.as_slice() {
-        turn(names, depth, at, *next, &mut stack)?;
+        let weight = if is_operator(&next.form) {
+            operate(names.alloc(), &mut stack, *next)?
+        } else {
+            leaf(names, depth, at, *next)?
+        };
+        stack.push(weight)?;
     }
     match stack.pop() {
         Some(weight) => Ok(weight),
         None => Ok(Weight::nothing(names.alloc())),
     }
-}
-
-/// Puts the weight of a node on a stack, from which an operator takes those of its operands.
-#[cycle(weigh)]
-fn turn(
-    names: &mut Names,
-    depth: usize,
-    at: &Known,
-    node: &Node,
-    stack: &mut Vec<Weight>,
-) -> Result<(), Memory>
-    ensures same { OnOk result (names.new ≡ names.old) }
-    ensures turned { OnOk result (stack.new.items
-        ≡ spec.turned names.old depth at.now stack.old.items (term_of node.now)) }
-{
-    if is_operator(&node.form) {
-        let weight = operate(names.alloc(), stack, node)?;
-        stack.push(weight)?;
-        return Ok(());
-    }
-    let weight = leaf(names, depth, at, node)?;
-    stack.push(weight)?;
-    Ok(())
 }
 
 /// The weight of an expression that is no operator over others.

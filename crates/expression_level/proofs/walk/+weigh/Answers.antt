@@ -13,6 +13,7 @@ use Rattle.expression_level.proofs.Uses.{joined-nothing}
 use Rattle.expression_level.proofs.Locals.{definitions-left, parameters-left}
 use Rattle.expression_level.proofs.Walks.{in-order, turns-operator, turns-leaf, turn-next, weighs-choose, weighs-plain, rest-next, rest-ends, sets-group, keys-split, weighs-key, weighs-field-key, each-next, updates-next, no-more-values, except-begins, except-empty, bodies-step, known-step, next-one, all-past, last-one, because, in-any-case}
 use Rattle.expression_level.proofs.walk.+weigh.Goals as goal
+use Rattle.expression_level.proofs.walk.+weigh.Goals.{weigh-then-is_operator+in_ok-weight, weigh-else-is_operator+in_ok-weight-2}
 
 pub weigh-loop-next-init : goal.weigh-loop-next-init
 weigh-loop-next-init t c =
@@ -25,8 +26,8 @@ weigh-loop-next-init t c =
           ∙ in-order n c.args.depth c.args.at.now (term_of c.args.node.now) [];
     }
 
-pub weigh-turn-requires : goal.weigh-turn-requires
-weigh-turn-requires t c =
+pub weigh-leaf-requires : goal.weigh-leaf-requires
+weigh-leaf-requires t c =
     let r = c.next-item.result in
     let is : r ≡ slice_index_or c.in_ok-nodes.nodes.items c.loop-next.next-index r = c.next-item.is ∙ ap (λ l. slice_index_or l c.loop-next.next-index r) c.as_slice-next-items.ensures.value in
     let within : c.loop-next.next-index < length c.in_ok-nodes.nodes.items = subst (λ l. c.loop-next.next-index < length l) c.as_slice-next-items.ensures.value c.loop-next-test.true in
@@ -34,11 +35,22 @@ weigh-turn-requires t c =
     let d = c.decreases in (omega (arith, h, d), tt)
 
 pub weigh-loop-next-preserved : goal.weigh-loop-next-preserved
-weigh-loop-next-preserved t c = record {
-  same = c.in_ok-turn.ensures.same ∙ c.loop-next.invariant.same;
-  order = turn-next c.args.names.now c.args.depth c.args.at.now _ c.loop-next.stack.items c.turn.new.stack.items c.as_slice-next-items.result.now c.loop-next.next-index c.next-item.result c.loop-next.names
-      c.loop-next.invariant.order c.loop-next-test.true c.next-item.is c.loop-next.invariant.same c.in_ok-turn.ensures.turned;
-}
+weigh-loop-next-preserved t c =
+    let n = c.args.names.now in let d = c.args.depth in let k = c.args.at.now in let x = c.loop-next.invariant in let node = c.next-item.result.now in
+    let stack = c.loop-next.stack.items in
+    let order = turn-next n d k _ stack c.push.new.self.items c.as_slice-next-items.result.now c.loop-next.next-index c.next-item.result x.order c.loop-next-test.true c.next-item.is in
+    elim c.if-is_operator.branch [
+      | weigh-then-is_operator+in_ok-weight w ↦ record {
+          same = w.names-is ∙ x.same;
+          order = order (turns-operator n d k node stack w.operate.new.stack.items _ w.in_ok-weight.weight (sym c.is_operator.ensures ∙ w.if-is_operator.true) w.in_ok-weight.ensures.taken w.in_ok-weight.ensures.weight
+              (c.in_ok-push.ensures.items ∙ (λ i. (w.stack-is i).items ++ w.weight-is i ∷ [])));
+        }
+      | weigh-else-is_operator+in_ok-weight-2 w ↦ record {
+          same = w.names-is ∙ w.in_ok-weight-2.ensures.same ∙ x.same;
+          order = order (turns-leaf n d k node stack _ w.in_ok-weight-2.weight (sym c.is_operator.ensures ∙ w.if-is_operator.false) (w.in_ok-weight-2.ensures.weight ∙ ap (λ s. weight_of s d k (term_of node)) x.same)
+              (c.in_ok-push.ensures.items ∙ (λ i. (w.stack-is i).items ++ w.weight-is i ∷ [])));
+        }
+    ]
 
 pub weigh-returns-in-Some : goal.weigh-returns-in-Some
 weigh-returns-in-Some t c =
@@ -50,15 +62,6 @@ weigh-returns-in-Some t c =
           ∙ sym (ap (λ l. fold (turned n c.args.depth c.args.at.now) c.loop-next.stack.items (map (λ m. term_of m.now) l)) (all-past c.as_slice-next-items.result.now c.loop-next.next-index c.loop-next-test.false))
           ∙ c.loop-next.invariant.order);
     }
-
-pub turn-returns-clause-turned : goal.turn-returns-clause-turned
-turn-returns-clause-turned t c =
-    turns-leaf c.args.names.now c.args.depth c.args.at.now c.args.node.now c.args.stack.now.items _ c.in_ok-weight-2.weight (sym c.if-is_operator.ensures) c.in_ok-weight-2.ensures.weight c.in_ok-push-2.ensures.items
-
-pub turn-returns-then-is_operator-clause-turned : goal.turn-returns-then-is_operator-clause-turned
-turn-returns-then-is_operator-clause-turned t c =
-    turns-operator c.args.names.now c.args.depth c.args.at.now c.args.node.now c.args.stack.now.items c.operate.new.stack.items _ c.in_ok-weight.weight (sym c.if-is_operator.ensures)
-    c.in_ok-weight.ensures.taken c.in_ok-weight.ensures.weight c.in_ok-push.ensures.items
 
 pub leaf-returns-in-Name-clause-weight : goal.leaf-returns-in-Name-clause-weight
 leaf-returns-in-Name-clause-weight t c = because _ _ c.name.result (ap (weight_of c.args.names.now c.args.depth c.args.at.now) (is-name c.args.node.now _ c.in-Name.is)) c.name.ensures.weight

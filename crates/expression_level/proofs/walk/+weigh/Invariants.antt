@@ -45,9 +45,6 @@ invariant-except-loop-index l = record {
 abbrev pub decreases-weigh : goal.decreases-weigh
 decreases-weigh l = 5 * goal.size-weigh l + 3
 
-abbrev pub decreases-turn : goal.decreases-turn
-decreases-turn l = 5 * goal.size-turn l + 2
-
 abbrev pub decreases-leaf : goal.decreases-leaf
 decreases-leaf l = 5 * goal.size-leaf l + 1
 
