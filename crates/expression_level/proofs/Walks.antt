@@ -1,5 +1,5 @@
 -- The walk of the code over an expression gives its weight.
-use Rattle.std.proofs.Common.{◌≡◌, ◌≤◌, ◌<◌, ◌++◌, ◌+◌, ◌-◌, ℕ, zero, suc, Bool, true, false, if◌then◌else◌, List, [], ◌∷◌, fold, map, take, drop, length, get_or, Option, Some, None, refl, sym, ap, subst, ◌∙◌, arith, append_assoc, append-nil, length-append, drop-cons, add-one}
+use Rattle.std.proofs.Common.{◌≡◌, ◌⊎◌, inl, inr, ◌≤◌, ◌<◌, ◌++◌, ◌+◌, ◌-◌, ℕ, zero, suc, Bool, true, false, if◌then◌else◌, List, [], ◌∷◌, fold, map, take, drop, length, get_or, Option, Some, None, refl, sym, ap, subst, ◌∙◌, arith, append_assoc, append-nil, length-append, drop-cons, add-one}
 use Rattle.std.proofs.lemmas.Grind.{fold-append, common_steps}
 use Rattle.std.proofs.lemmas.List.{length-map}
 use Rattle.std.specs.Prelude.{Result, Ok, Err, IfOk, OnOk}
@@ -24,8 +24,8 @@ use Rattle.plain_syntax.specs.Plain.Terms.{none, part}
 use Rattle.plain_syntax.specs.Plain.{Shape as s}
 use Rattle.plain_syntax.specs.Syntax.{Held, shape_of, key_of, def_of, group_of, node_of, path_of, term_of, terms_of, keys_of, key_keys, each_key, groups_of, each_group, each_def, with_domain, set_of, except_of}
 use Rattle.plain_syntax.specs.Order.{order, orders, joined_by, joins}
-use Rattle.plain_syntax.proofs.Forms.{held, by-form, parts_in, is-name, is-call, is-except, is-quantifier, is-choice, is-local, is-path, is-key, is-field-key, is-group, is-def}
-use Rattle.expression_level.specs.Weights.{Weight, Known, primed_if, join, total, nothing, at_name, form_weight, result_so_far, asked_round}
+use Rattle.plain_syntax.proofs.Forms.{held, by-form, parts_in, is-name, is-call, is-box, is-angle, is-except, is-quantifier, is-choice, is-local, is-path, is-key, is-field-key, is-group, is-def}
+use Rattle.expression_level.specs.Weights.{Weight, Known, acted, primed_if, join, total, nothing, at_name, form_weight, result_so_far, asked_round}
 use Rattle.expression_level.specs.Scope.{Names, applied, weight_of, weights_of, turned, count, ruled, by_form, updates_on, excepted, sets_of, keys_on, bodies_of, domain_weight, with_definition, with_all, body_weight}
 use Rattle.expression_level.proofs.Uses.{join-assoc, nothing-joined, joined-nothing}
 
@@ -146,6 +146,14 @@ module _ (c : Names) (d : ℕ) (k : Known) where
       ∙ sym (turns-node n stack)
 
   -- ---- other forms
+
+  pub weighs-name : (n : Node) → ((w : Text) × ((out-Node n).form ≡ form.Name w)) ⊎ ((w : Text) × ((out-Node n).form ≡ form.Call w)) → weight_of c d k (term_of n) ≡ applied c d k (out-Node n).place (parts_in n)
+  weighs-name n (inl e) = ap (weight_of c d k) (is-name n e.0 e.1)
+  weighs-name n (inr e) = ap (weight_of c d k) (is-call n e.0 e.1)
+
+  pub weighs-action : (n : Node) → ((out-Node n).form ≡ form.BoxAct) ⊎ ((out-Node n).form ≡ form.AngleAct) → weight_of c d k (term_of n) ≡ acted (out-Node n).place (weights_of c d k [] (parts_in n))
+  weighs-action n (inl e) = ap (weight_of c d k) (is-box n e)
+  weighs-action n (inr e) = ap (weight_of c d k) (is-angle n e)
 
   sets-made : (ns : List Decl) (o : Option Node) (rest : Groups) → sets_of c d k (with_domain ns (set_of o) rest) ≡ join (domain_weight c d k o) (sets_of c d k rest)
   sets-made ns None rest = sym (nothing-joined (sets_of c d k rest))

@@ -46,10 +46,12 @@ fn leaf(names: &mut Names, depth: usize, at: &Known, node: &Node) -> Result<Weig
     ensures weight { IfOk result (λ weight. weight ≡ spec.weight_of names.old depth at.now (term_of node.now)) }
 {
     match &node.form {
-        Form::Name(_) => name(names, depth, at, node),
-        Form::Call(_) => name(names, depth, at, node),
-        Form::BoxAct => action(names, depth, at, node),
-        Form::AngleAct => action(names, depth, at, node),
+        Form::Name(_) | Form::Call(_) => {
+            let flags = names.flags(node.place);
+            let args = each(names, depth, at, flags, node.parts.as_slice())?;
+            at_name(names.alloc(), names.at(node.place), args, node.place)
+        }
+        Form::BoxAct | Form::AngleAct => action(names, depth, at, node),
         Form::At => {
             let none = Vec::new(names.alloc());
             at_name(names.alloc(), Some(at), none, node.place)
@@ -109,19 +111,6 @@ fn each(
         found.push(weight)?;
     }
     Ok(found)
-}
-
-/// A name with its arguments.
-#[cycle(weigh)]
-fn name(names: &mut Names, depth: usize, at: &Known, node: &Node) -> Result<Weight, Memory>
-    ensures same { OnOk result (names.new ≡ names.old) }
-    ensures weight { IfOk result (λ weight. weight
-        ≡ spec.applied names.old depth at.now (out-Node node.now).place
-        (terms_of (map term_of (out-Node node.now).parts))) }
-{
-    let flags = names.flags(node.place);
-    let args = each(names, depth, at, flags, node.parts.as_slice())?;
-    at_name(names.alloc(), names.at(node.place), args, node.place)
 }
 
 /// An action with its subscript.

@@ -3,15 +3,15 @@ use Rattle.tla_ast.specs.declared.tree.Node.{out-Node, size-Node}
 use Rattle.tla_ast.specs.declared.tree.Def.{out-Def}
 use Rattle.tla_ast.specs.declared.tree.Group.{out-Group}
 use Rattle.tla_ast.specs.declared.tree.Path.{out-Path}
-use Rattle.plain_syntax.proofs.Forms.{is-name, is-call, is-box, is-angle, is-at, is-quantifier, is-local}
+use Rattle.plain_syntax.proofs.Forms.{is-at, is-quantifier, is-local}
 use Rattle.plain_syntax.specs.Syntax.{term_of, terms_of, each_group, each_key, each_def}
 use Rattle.expression_level.specs.Levels.{has_fault}
 use Rattle.expression_level.specs.Weights.{at_name, primed_if, join, total, acted, action_weight, all_primed, asked_round}
 use Rattle.expression_level.specs.Weights.Known.{defined}
-use Rattle.expression_level.specs.Scope.{turned, weight_of, weights_of, sets_of, keys_on, bodies_of, updates_on, domain_weight, by_form, left, with_name, with_more, with_all}
+use Rattle.expression_level.specs.Scope.{turned, at_place, weight_of, weights_of, sets_of, keys_on, bodies_of, updates_on, domain_weight, by_form, left, with_name, with_more, with_all}
 use Rattle.expression_level.proofs.Uses.{joined-nothing}
 use Rattle.expression_level.proofs.Locals.{definitions-left, parameters-left}
-use Rattle.expression_level.proofs.Walks.{in-order, turns-operator, turns-leaf, turn-next, weighs-choose, weighs-plain, rest-next, rest-ends, sets-group, keys-split, weighs-key, weighs-field-key, each-next, updates-next, no-more-values, except-begins, except-empty, bodies-step, known-step, next-one, all-past, last-one, because, in-any-case}
+use Rattle.expression_level.proofs.Walks.{in-order, weighs-name, weighs-action, turns-operator, turns-leaf, turn-next, weighs-choose, weighs-plain, rest-next, rest-ends, sets-group, keys-split, weighs-key, weighs-field-key, each-next, updates-next, no-more-values, except-begins, except-empty, bodies-step, known-step, next-one, all-past, last-one, because, in-any-case}
 use Rattle.expression_level.proofs.walk.+weigh.Goals as goal
 use Rattle.expression_level.proofs.walk.+weigh.Goals.{weigh-then-is_operator+in_ok-weight, weigh-else-is_operator+in_ok-weight-2}
 
@@ -63,18 +63,14 @@ weigh-returns-in-Some t c =
           ∙ c.loop-next.invariant.order);
     }
 
-pub leaf-returns-in-Name-clause-weight : goal.leaf-returns-in-Name-clause-weight
-leaf-returns-in-Name-clause-weight t c = because _ _ c.name.result (ap (weight_of c.args.names.now c.args.depth c.args.at.now) (is-name c.args.node.now _ c.in-Name.is)) c.name.ensures.weight
-
-pub leaf-returns-in-Call-clause-weight : goal.leaf-returns-in-Call-clause-weight
-leaf-returns-in-Call-clause-weight t c = because _ _ c.name-in-Call.result (ap (weight_of c.args.names.now c.args.depth c.args.at.now) (is-call c.args.node.now _ c.in-Call.is)) c.name-in-Call.ensures.weight
+pub leaf-returns-in_ok-args-in-Name-clause-weight : goal.leaf-returns-in_ok-args-in-Name-clause-weight
+leaf-returns-in_ok-args-in-Name-clause-weight t c =
+    let n = c.args.names.now in let d = c.args.depth in let k = c.args.at.now in let p = (out-Node c.args.node.now).place in let e = c.in_ok-args-in-Name.ensures in
+    let args = e.weights ∙ (λ i. weights_of n d k (c.flags-flags.ensures i) (terms_of (map term_of (c.as_slice-in-Name.ensures i)))) in
+    because _ _ c.at_name-in-Name.result (weighs-name n d k c.args.node.now c.in-Name.is ∙ sym (λ i. at_name p ((c.at.ensures ∙ ap (λ s. at_place s p) e.same) i) (args i))) c.at_name-in-Name.ensures
 
 pub leaf-returns-in-BoxAct-clause-weight : goal.leaf-returns-in-BoxAct-clause-weight
-leaf-returns-in-BoxAct-clause-weight t c = because _ _ c.action.result (ap (weight_of c.args.names.now c.args.depth c.args.at.now) (is-box c.args.node.now c.in-BoxAct.is)) c.action.ensures.weight
-
-pub leaf-returns-in-AngleAct-clause-weight : goal.leaf-returns-in-AngleAct-clause-weight
-leaf-returns-in-AngleAct-clause-weight t c =
-    because _ _ c.action-in-AngleAct.result (ap (weight_of c.args.names.now c.args.depth c.args.at.now) (is-angle c.args.node.now c.in-AngleAct.is)) c.action-in-AngleAct.ensures.weight
+leaf-returns-in-BoxAct-clause-weight t c = because _ _ c.action.result (weighs-action c.args.names.now c.args.depth c.args.at.now c.args.node.now c.in-BoxAct.is) c.action.ensures.weight
 
 pub leaf-returns-in-At-clause-weight : goal.leaf-returns-in-At-clause-weight
 leaf-returns-in-At-clause-weight t c =

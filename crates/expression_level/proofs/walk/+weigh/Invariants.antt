@@ -51,9 +51,6 @@ decreases-leaf l = 5 * goal.size-leaf l + 1
 abbrev pub decreases-each : goal.decreases-each
 decreases-each l = 5 * goal.size-each l + 4
 
-abbrev pub decreases-name : goal.decreases-name
-decreases-name l = 5 * goal.size-name l + 0
-
 abbrev pub decreases-action : goal.decreases-action
 decreases-action l = 5 * goal.size-action l + 0
 
