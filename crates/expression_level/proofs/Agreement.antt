@@ -1,13 +1,13 @@
 -- The linear form of levels is the levels: under any levels of the parameters, a weight has the level of its expression, and a fault
 -- where there is one.
-use Rattle.std.proofs.Common.{◌≡◌, ℕ, zero, suc, ◌≤◌, Bool, true, false, ◌||◌, nat_lt, if◌then◌else◌, List, [], ◌∷◌, ◌++◌, map, take, drop, length, refl, sym, ap, ◌∙◌, arith, append-nil}
+use Rattle.std.proofs.Common.{◌≡◌, ℕ, zero, suc, ◌≤◌, Bool, true, false, ◌||◌, nat_lt, List, [], ◌∷◌, ◌++◌, map, take, drop, length, refl, sym, ap, ◌∙◌, arith, append-nil}
 use Rattle.tla_ast.specs.declared.place.Place.{Place}
 use Rattle.expression_level.specs.declared.weight.Use.{Use}
 use Rattle.expression_level.specs.Levels.{Judged, Several, Applied, higher, raised, has_fault, fault_if, told, before, beside, overall, at_name, limited, primed_level, action_level}
 use Rattle.expression_level.specs.Weights as w
 use Rattle.expression_level.specs.Weights.{Weight, Known, merged, told_by, told_from, told_under, nothing, join, total, fixed, with_fault, capped, lifted, depth_of, function_of, primed_use, all_primed, primed_if, named}
 use Rattle.expression_level.specs.Weights.Known.{arguments, defined}
-use Rattle.expression_level.proofs.Evaluation.{higher-none, or-false, merged-none, merged-zero, merged-assoc, from-zero, from-same, has-fault-append, has-fault-with, faulty, under-join, under-fixed, under-lifted, under-capped, under-with, told-put}
+use Rattle.expression_level.proofs.Evaluation.{higher-none, or-false, merged-zero, merged-assoc, from-zero, from-same, has-fault-append, has-fault-with, faulty, under-join, under-fixed, under-lifted, under-capped, under-with, told-put}
 
 -- ---- all levels 0
 

@@ -3,7 +3,7 @@ use Rattle.std.proofs.Common.{◌≡◌, ℕ, Bool, true, false, ◌||◌, ◌&&
 use Rattle.tla_ast.specs.declared.place.Place.{Place}
 use Rattle.expression_level.specs.declared.weight.Use.{Use}
 use Rattle.expression_level.specs.Levels.{higher, raised, has_fault, fault_if}
-use Rattle.expression_level.specs.Weights.{Weight, Told, merged, counted, is_over, told_by, told_from, told_under, stricter, both, all_uses, join, kept, fixed, with_fault, asked, capped_use, capped, raised_use, lifted, passed_limit, passed, argument, put}
+use Rattle.expression_level.specs.Weights.{Weight, Told, merged, counted, is_over, told_by, told_from, told_under, stricter, all_uses, join, kept, fixed, with_fault, asked, capped_use, capped, raised_use, lifted, passed_limit, passed, argument, put}
 
 -- ---- numbers and tests
 

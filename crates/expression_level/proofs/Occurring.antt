@@ -3,7 +3,7 @@ use Rattle.std.proofs.Common.{◌≡◌, ◌≢◌, ℕ, zero, suc, ◌+◌, ◌
 use Rattle.std.proofs.lemmas.List.{get_or-take}
 use Rattle.tla_ast.specs.declared.place.Place.{Place}
 use Rattle.tla_ast.specs.declared.tree.Decl.{Decl}
-use Rattle.plain_syntax.specs.Plain.{Text, Term, Terms, Updates, Keys, Groups, Defs}
+use Rattle.plain_syntax.specs.Plain.{Term, Terms, Updates, Keys, Groups, Defs}
 use Rattle.plain_syntax.specs.Plain.Term.{term}
 use Rattle.plain_syntax.specs.Plain.Terms.{none, part}
 use Rattle.plain_syntax.specs.Plain.Shape.{name, call, prefixed, infixed, prime, except, box, angle, quantifier, choice, local, at, fair}
@@ -94,9 +94,6 @@ module _ (i : ℕ) where
   sees-primed true x o s = seen-map primed_use (primed_if true) refl (λ u. refl) i x.uses ∙ ap (primed_if true) s
   sees-primed false x o s = s
 
-  sees-lifted : (x : Weight) (o : Occurrence) → Sees x o → Sees (lifted x) o
-  sees-lifted x o s = seen-same raised_use (λ u. refl) i x.uses ∙ s
-
   sees-action : (p : Place) (x y : Weight) (o q : Occurrence) → Sees x o → Sees y q → Sees (w.action_weight p x (all_primed y)) (beside o (primed_if true q))
   sees-action p x y o q s t =
       sees-fixed 2 (join (w.capped 2 x) (w.capped 1 (all_primed y))) (beside o (primed_if true q))
@@ -108,10 +105,6 @@ module _ (i : ℕ) where
   sees-prefix p x o false true c s = sees-fixed 1 (limited 2 p x) o (sees-limited 2 p x o s)
   sees-prefix p x o false false true s = sees-fixed 3 x o s
   sees-prefix p x o false false false s = s
-
-  sees-infix : (x : Weight) (o : Occurrence) (b : Bool) → Sees x o → Sees (if b then fixed 3 x else x) o
-  sees-infix x o true s = sees-fixed 3 x o s
-  sees-infix x o false s = s
 
   sees-name : (p : Place) (k : Known) (b : Bool) (xs : List Weight) (o : Occurrence) → Holds k b → Sees (total xs) o → Sees (at_name p k xs) (beside o (here b))
   sees-name p arguments b xs o h s = s ∙ sym (beside-nowhere o) ∙ ap (λ c. beside o (here c)) h
@@ -157,9 +150,9 @@ module _ (i : ℕ) where
           sees-name p (known env (means p)) (is_holder hs (means p)) (walk.weigh_each means flags d env k (flags (means p)) ts) _ (holds-named hs env (means p) a) (sees-each d hs env b k h a g (flags (means p)) ts)
       sees d hs env b k h a g (term prime ts p) =
           let x = total (walk.weigh_each means flags d env k [] ts) in
-          sees-lifted (limited 1 p (all_primed x)) _ (sees-limited 1 p (all_primed x) _ (sees-primed true x _ (sees-each d hs env b k h a g [] ts)))
+          seen-same raised_use (λ u. refl) i (limited 1 p (all_primed x)).uses ∙ sees-limited 1 p (all_primed x) _ (sees-primed true x _ (sees-each d hs env b k h a g [] ts))
       sees d hs env b k h a g (term (prefixed o) ts p) = sees-prefix p (total (walk.weigh_each means flags d env k [] ts)) _ (is_word o (codes "UNCHANGED")) _ _ (sees-each d hs env b k h a g [] ts)
-      sees d hs env b k h a g (term (infixed o) ts p) = sees-infix (total (walk.weigh_each means flags d env k [] ts)) _ (is_word o (codes "~>")) (sees-each d hs env b k h a g [] ts)
+      sees d hs env b k h a g (term (infixed o) ts p) = sees-prefix p (total (walk.weigh_each means flags d env k [] ts)) _ false false (is_word o (codes "~>")) (sees-each d hs env b k h a g [] ts)
       sees d hs env b k h a g (term fair ts p) = sees-fixed 3 (total (walk.weigh_each means flags d env k [] ts)) _ (sees-each d hs env b k h a g [] ts)
       sees d hs env b k h a g (term box none p) = refl
       sees d hs env b k h a g (term box (part t ts) p) = sees-action p (weigh means flags d env k t) (total (walk.weigh_each means flags d env k [] ts)) _ _ (sees d hs env b k h a g t) (sees-each d hs env b k h a g [] ts)
@@ -256,11 +249,7 @@ module _ (means : Place → Option ℕ) (flags : Option ℕ → List Bool) (k : 
 
       never : (o : Option ℕ) (n : ℕ) → bind o false (λ m. false) n ≡ false
       never None n = refl
-      never (Some m) n = by-test (nat_eq m n)
-        where
-          by-test : (b : Bool) → (if b then false else false) ≡ false
-          by-test true = refl
-          by-test false = refl
+      never (Some m) n = grind arith
 
       blank : (i : ℕ) (env : Env) (o : Option ℕ) → Blank i env → Blank (suc i) (with_local o (parameter i) env)
       blank i env o a j n h =

@@ -1,10 +1,10 @@
 -- Loops over arguments, one step after another.
-use Rattle.std.proofs.Common.{◌≡◌, ℕ, zero, suc, ◌+◌, ◌≤◌, ◌<◌, Bool, false, take, ◌||◌, List, [], ◌∷◌, ◌++◌, drop, length, get_or, replicate, min, refl, sym, ap, ◌∙◌, arith, drop-cons, add-one}
+use Rattle.std.proofs.Common.{◌≡◌, ℕ, zero, suc, ◌+◌, ◌≤◌, ◌<◌, List, [], ◌∷◌, ◌++◌, drop, length, get_or, replicate, min, refl, sym, ap, ◌∙◌, arith, drop-cons, add-one}
 use Rattle.std.proofs.lemmas.Grind.{common_steps}
 use Rattle.tla_ast.specs.declared.place.Place.{Place}
 use Rattle.expression_level.specs.declared.weight.Use.{Use}
 use Rattle.expression_level.specs.Weights.{Weight, unused, as_it_is, uses_of, nothing, join, total, argument, put}
-use Rattle.expression_level.proofs.Uses.{join-assoc, nothing-joined, joined-nothing}
+use Rattle.expression_level.proofs.Uses.{join-assoc, joined-nothing}
 
 pub uses_of_is : (n : ℕ) → uses_of n ≡ replicate n unused ++ as_it_is ∷ []
 uses_of_is zero = refl

@@ -1,7 +1,7 @@
 -- The walk of the code over an expression gives its weight.
-use Rattle.std.proofs.Common.{◌≡◌, ◌⊎◌, inl, inr, ◌≤◌, ◌<◌, ◌++◌, ◌+◌, ◌-◌, ℕ, zero, suc, Bool, true, false, if◌then◌else◌, List, [], ◌∷◌, fold, map, take, drop, length, get_or, Option, Some, None, refl, sym, ap, subst, ◌∙◌, arith, append_assoc, append-nil, length-append, drop-cons, add-one}
+use Rattle.std.proofs.Common.{◌≡◌, ◌⊎◌, inl, inr, ◌≤◌, ◌<◌, ◌++◌, ◌+◌, ◌-◌, ℕ, zero, suc, Bool, true, false, if◌then◌else◌, List, [], ◌∷◌, fold, map, take, drop, length, get_or, Option, Some, None, refl, sym, ap, subst, ◌∙◌, arith, append_assoc, append-nil, add-one}
 use Rattle.std.proofs.lemmas.Grind.{fold-append, common_steps}
-use Rattle.std.proofs.lemmas.List.{length-map}
+use Rattle.std.proofs.lemmas.List.{length-map, nil_from_length}
 use Rattle.std.specs.Prelude.{Result, Ok, Err, IfOk, OnOk}
 use Rattle.std.specs.Borrow.{Bor}
 use Rattle.core_expr.specs.declared.memory.Memory.{Memory}
@@ -22,10 +22,10 @@ use Rattle.plain_syntax.specs.Plain.{Text, Term, Terms, Shape, Keys, Groups, Def
 use Rattle.plain_syntax.specs.Plain.Term.{term}
 use Rattle.plain_syntax.specs.Plain.Terms.{none, part}
 use Rattle.plain_syntax.specs.Plain.{Shape as s}
-use Rattle.plain_syntax.specs.Syntax.{Held, shape_of, key_of, def_of, group_of, node_of, path_of, term_of, terms_of, keys_of, key_keys, each_key, groups_of, each_group, each_def, with_domain, set_of, except_of}
+use Rattle.plain_syntax.specs.Syntax.{Held, shape_of, key_of, def_of, group_of, node_of, path_of, term_of, terms_of, keys_of, key_keys, each_key, groups_of, each_def, with_domain, set_of, except_of}
 use Rattle.plain_syntax.specs.Order.{order, orders, joined_by, joins}
-use Rattle.plain_syntax.proofs.Forms.{held, by-form, parts_in, is-name, is-call, is-box, is-angle, is-except, is-quantifier, is-choice, is-local, is-path, is-key, is-field-key, is-group, is-def}
-use Rattle.expression_level.specs.Weights.{Weight, Known, acted, primed_if, join, total, nothing, at_name, form_weight, result_so_far, asked_round}
+use Rattle.plain_syntax.proofs.Forms.{held, by-form, parts_in, is-name, is-call, is-box, is-angle, is-except, is-choice, is-path, is-key, is-field-key, is-group, is-def}
+use Rattle.expression_level.specs.Weights.{Weight, Known, acted, primed_if, join, total, nothing, form_weight, result_so_far, asked_round}
 use Rattle.expression_level.specs.Scope.{Names, applied, weight_of, weights_of, turned, count, ruled, by_form, updates_on, excepted, sets_of, keys_on, bodies_of, domain_weight, with_definition, with_all, body_weight}
 use Rattle.expression_level.proofs.Uses.{join-assoc, nothing-joined, joined-nothing}
 
@@ -230,11 +230,7 @@ module _ (c : Names) (d : ℕ) (k : Known) where
       (λ i. updates_on c d k (q i) ns (w i)) ∙ ap (excepted c d k ps) (sym a) ∙ sym (weighs-except n ps e)
 
   pub except-empty : (n : Node) (ps : List Path) (x : Weight) → (out-Node n).form ≡ form.Except ps → length (out-Node n).parts ≡ 0 → x ≡ nothing → x ≡ weight_of c d k (term_of n)
-  except-empty n ps x e l a = a ∙ sym (ap (excepted c d k ps) (empty (out-Node n).parts l)) ∙ sym (weighs-except n ps e)
-    where
-      empty : (ns : List Node) → length ns ≡ 0 → ns ≡ []
-      empty [] l = refl
-      empty (n ∷ ns) l = absurd (omega (arith, l))
+  except-empty n ps x e l a = a ∙ sym (ap (excepted c d k ps) (nil_from_length (out-Node n).parts l)) ∙ sym (weighs-except n ps e)
 
   pub turn-next : (all : List Weight) (stack next : List Weight) (xs : List (Bor Node)) (i : ℕ) (x : Bor Node) → fold (turned c d k) stack (map (λ n. term_of n.now) (drop i xs)) ≡ all
       → i < length xs → x ≡ get_or xs i x → next ≡ turned c d k stack (term_of x.now) → fold (turned c d k) next (map (λ n. term_of n.now) (drop (i + 1) xs)) ≡ all

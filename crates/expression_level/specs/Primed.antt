@@ -5,7 +5,7 @@ use Rattle.std.specs.Prelude.{ℕ, Bool, true, false, ◌||◌, if◌then◌else
 use Rattle.tla_ast.specs.declared.place.Place.{Place}
 use Rattle.tla_ast.specs.declared.tree.Decl.{Decl}
 use Rattle.expression_level.specs.Levels.{is_word, bind}
-use Rattle.plain_syntax.specs.Plain.{Text, Term, Terms, Updates, Keys, Groups, Defs}
+use Rattle.plain_syntax.specs.Plain.{Term, Terms, Updates, Keys, Groups, Defs}
 use Rattle.plain_syntax.specs.Plain.Term.{term}
 use Rattle.plain_syntax.specs.Plain.Terms.{none, part}
 use Rattle.plain_syntax.specs.Plain.Shape.{name, call, prefixed, prime, except, box, angle, quantifier, choice, local, at}

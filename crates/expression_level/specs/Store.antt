@@ -1,5 +1,5 @@
 -- What the code keeps of names, as levels and weights speak of it.
-use Rattle.std.specs.Prelude.{◌≡◌, ℕ, Bool, List, [], ◌∷◌, Option, Some, None, get_or}
+use Rattle.std.specs.Prelude.{◌≡◌, ℕ, Bool, List, [], Option, Some, None, get_or}
 use Rattle.std.specs.Borrow.{Bor}
 use Rattle.symbol_table.specs.declared.entry.Entry.{Entry}
 use Rattle.symbol_table.specs.Scoped.{entry_of}

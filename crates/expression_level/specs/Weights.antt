@@ -1,19 +1,12 @@
 -- Levels in one pass: how the level of an expression, and what it asks for, depend on the levels of the parameters round it.
 -- A parameter is known by its position among those that are bound, the outermost first. A use says how one counts: as it is, raised
 -- as by a prime, and the greatest level that is lawful for it; and whether it stands in the expression, and is primed there.
-use Rattle.std.specs.Prelude.{ℕ, zero, suc, ◌+◌, Bool, true, false, ◌||◌, ◌&&◌, nat_lt, if◌then◌else◌, List, [], ◌∷◌, ◌++◌, map, take, drop, length, get_or, Option, Some, None, codes}
+use Rattle.std.specs.Prelude.{ℕ, zero, suc, ◌+◌, Bool, true, false, ◌||◌, ◌&&◌, nat_lt, if◌then◌else◌, List, [], ◌∷◌, ◌++◌, map, take, drop, get_or, Option, Some, None, codes}
 use Rattle.tla_ast.specs.declared.place.Place.{Place}
-use Rattle.tla_ast.specs.declared.tree.Decl.{Decl}
-use Rattle.plain_syntax.specs.Plain.{Text, Term, Terms, Shape, Updates, Keys, Groups, Defs}
-use Rattle.plain_syntax.specs.Plain.Term.{term}
-use Rattle.plain_syntax.specs.Plain.Terms.{none, part}
-use Rattle.plain_syntax.specs.Plain.Shape.{name, call, prefixed, infixed, prime, except, box, angle, quantifier, choice, local, at, fair}
-use Rattle.plain_syntax.specs.Plain.Updates.{end_updates, update}
-use Rattle.plain_syntax.specs.Plain.Keys.{end_keys, key, field_key}
-use Rattle.plain_syntax.specs.Plain.Groups.{end_groups, free, within}
-use Rattle.plain_syntax.specs.Plain.Defs.{end_defs, def}
+use Rattle.plain_syntax.specs.Plain.{Text, Shape}
+use Rattle.plain_syntax.specs.Plain.Shape.{prefixed, infixed, prime, fair}
 use Rattle.expression_level.specs.declared.weight.Use.{Use}
-use Rattle.expression_level.specs.Levels.{is_word, higher, greatest, raised, bind, has_fault, fault_if, Applied}
+use Rattle.expression_level.specs.Levels.{is_word, higher, greatest, raised, has_fault, fault_if, Applied}
 
 -- the level where all parameters have level 0; how each parameter counts; the faults that stand whatever they have
 pub record Weight : Type 0 where

@@ -9,7 +9,6 @@ use Rattle.expression_level.specs.Levels.{has_fault}
 use Rattle.expression_level.specs.Weights.{at_name, primed_if, join, total, acted, action_weight, all_primed, asked_round}
 use Rattle.expression_level.specs.Weights.Known.{defined}
 use Rattle.expression_level.specs.Scope.{turned, at_place, weight_of, weights_of, sets_of, keys_on, bodies_of, updates_on, domain_weight, by_form, left, with_name, with_more, with_all}
-use Rattle.expression_level.proofs.Uses.{joined-nothing}
 use Rattle.expression_level.proofs.Locals.{definitions-left, parameters-left}
 use Rattle.expression_level.proofs.Walks.{in-order, weighs-name, weighs-action, turns-operator, turns-leaf, turn-next, weighs-choose, weighs-plain, rest-next, rest-ends, sets-group, keys-split, weighs-key, weighs-field-key, each-next, updates-next, no-more-values, except-begins, except-empty, bodies-step, known-step, next-one, all-past, last-one, because, in-any-case}
 use Rattle.expression_level.proofs.walk.+weigh.Goals as goal
@@ -41,15 +40,15 @@ weigh-loop-next-preserved t c =
     let order = turn-next n d k _ stack c.push.new.self.items c.as_slice-next-items.result.now c.loop-next.next-index c.next-item.result x.order c.loop-next-test.true c.next-item.is in
     elim c.if-is_operator.branch [
       | weigh-then-is_operator+in_ok-weight w ↦ record {
-          same = w.names-is ∙ x.same;
-          order = order (turns-operator n d k node stack w.operate.new.stack.items _ w.in_ok-weight.weight (sym c.is_operator.ensures ∙ w.if-is_operator.true) w.in_ok-weight.ensures.taken w.in_ok-weight.ensures.weight
-              (c.in_ok-push.ensures.items ∙ (λ i. (w.stack-is i).items ++ w.weight-is i ∷ [])));
-        }
+        same = w.names-is ∙ x.same;
+        order = order (turns-operator n d k node stack w.operate.new.stack.items _ w.in_ok-weight.weight (sym c.is_operator.ensures ∙ w.if-is_operator.true) w.in_ok-weight.ensures.taken w.in_ok-weight.ensures.weight
+            (c.in_ok-push.ensures.items ∙ (λ i. (w.stack-is i).items ++ w.weight-is i ∷ [])));
+      }
       | weigh-else-is_operator+in_ok-weight-2 w ↦ record {
-          same = w.names-is ∙ w.in_ok-weight-2.ensures.same ∙ x.same;
-          order = order (turns-leaf n d k node stack _ w.in_ok-weight-2.weight (sym c.is_operator.ensures ∙ w.if-is_operator.false) (w.in_ok-weight-2.ensures.weight ∙ ap (λ s. weight_of s d k (term_of node)) x.same)
-              (c.in_ok-push.ensures.items ∙ (λ i. (w.stack-is i).items ++ w.weight-is i ∷ [])));
-        }
+        same = w.names-is ∙ w.in_ok-weight-2.ensures.same ∙ x.same;
+        order = order (turns-leaf n d k node stack _ w.in_ok-weight-2.weight (sym c.is_operator.ensures ∙ w.if-is_operator.false) (w.in_ok-weight-2.ensures.weight ∙ ap (λ s. weight_of s d k (term_of node)) x.same)
+            (c.in_ok-push.ensures.items ∙ (λ i. (w.stack-is i).items ++ w.weight-is i ∷ [])));
+      }
     ]
 
 pub weigh-returns-in-Some : goal.weigh-returns-in-Some

@@ -5,7 +5,7 @@ use Rattle.expression_level.specs.Weights.{function_of, depth_of, primed_first}
 use Rattle.expression_level.specs.Weights.Known.{defined}
 use Rattle.expression_level.specs.Scope.{names_of, weight_of, with_more}
 use Rattle.expression_level.specs.Store.{AllClosed, levels_of}
-use Rattle.expression_level.proofs.Kept.{at_first, definition-is, least-is, primed-is}
+use Rattle.expression_level.proofs.Kept.{definition-is, least-is, primed-is}
 use Rattle.expression_level.proofs.levels.Levels.define.Goals as goal
 
 pub keep-requires : goal.keep-requires
