@@ -1,9 +1,9 @@
 -- What weights come to under given levels of the parameters.
-use Rattle.std.proofs.Common.{◌≡◌, ℕ, zero, suc, Bool, true, false, ◌||◌, ◌&&◌, nat_lt, if◌then◌else◌, List, [], ◌∷◌, ◌++◌, map, Option, Some, None, refl, sym, ap, ◌∙◌, arith}
+use Rattle.std.proofs.Common.{◌≡◌, ℕ, Bool, true, false, ◌||◌, ◌&&◌, nat_lt, if◌then◌else◌, List, [], ◌∷◌, ◌++◌, map, Option, Some, None, refl, sym, ap, ◌∙◌, arith}
 use Rattle.tla_ast.specs.declared.place.Place.{Place}
 use Rattle.expression_level.specs.declared.weight.Use.{Use}
 use Rattle.expression_level.specs.Levels.{higher, raised, has_fault, fault_if}
-use Rattle.expression_level.specs.Weights.{Weight, counted, is_over, level_from, breaks, level_under, fault_under, stricter, both, all_uses, join, kept, fixed, with_fault, asked_plain, asked_raised, asked, capped_use, capped, raised_use, lifted, passed_limit, passed, argument, put, put_breaks}
+use Rattle.expression_level.specs.Weights.{Weight, Told, merged, counted, is_over, told_by, told_from, told_under, stricter, all_uses, join, kept, fixed, with_fault, asked, capped_use, capped, raised_use, lifted, passed_limit, passed, argument, put}
 
 -- ---- numbers and tests
 
@@ -12,9 +12,6 @@ higher-zero x = grind arith
 
 pub higher-none : (x : ℕ) → higher x 0 ≡ x
 higher-none x = grind arith
-
-higher-same : (x : ℕ) → higher x x ≡ x
-higher-same x = grind arith
 
 pub higher-assoc : (x y z : ℕ) → higher (higher x y) z ≡ higher x (higher y z)
 higher-assoc x y z = grind arith
@@ -28,284 +25,181 @@ higher-shuffle a b c d =
     ∙ ap (higher a) (sym (higher-assoc b c d) ∙ ap (λ x. higher x d) (higher-swap b c) ∙ higher-assoc c b d)
     ∙ sym (higher-assoc a c (higher b d))
 
-over-higher : (k a b : ℕ) → nat_lt k (higher a b) ≡ (nat_lt k a || nat_lt k b)
-over-higher k a b = grind arith
-
-over-none : (k : ℕ) → nat_lt k 0 ≡ false
-over-none k = grind arith
-
-pub or-shuffle : (a b c d : Bool) → ((a || b) || (c || d)) ≡ ((a || c) || (b || d))
-or-shuffle true b c d = refl
-or-shuffle false true true d = refl
-or-shuffle false true false d = refl
-or-shuffle false false true d = refl
-or-shuffle false false false d = refl
+or-shuffle : (a b c d : Bool) → ((a || b) || (c || d)) ≡ ((a || c) || (b || d))
+or-shuffle a b c d = grind arith
 
 pub or-false : (a : Bool) → (a || false) ≡ a
-or-false true = refl
-or-false false = refl
+or-false a = grind arith
 
 pub or-assoc : (a b c : Bool) → ((a || b) || c) ≡ (a || (b || c))
-or-assoc true b c = refl
-or-assoc false b c = refl
+or-assoc a b c = grind arith
 
 raised-higher : (a b : ℕ) → raised (higher a b) ≡ higher (raised a) (raised b)
-raised-higher zero b = ap raised (higher-zero b) ∙ sym (higher-zero (raised b))
-raised-higher (suc a) zero = ap raised (higher-none (suc a)) ∙ sym (higher-none 2)
-raised-higher (suc a) (suc b) = by-test (nat_lt (suc a) (suc b))
-  where
-    by-test : (t : Bool) → raised (if t then suc b else suc a) ≡ 2
-    by-test true = refl
-    by-test false = refl
+raised-higher a b = grind arith
 
-raised-raised : (a : ℕ) → raised (raised a) ≡ raised a
-raised-raised zero = refl
-raised-raised (suc a) = refl
+pub merged-zero : (x : Told) → merged (0, false) x ≡ x
+merged-zero x i = (higher-zero x.0 i, x.1)
+
+pub merged-none : (x : Told) → merged x (0, false) ≡ x
+merged-none x i = (higher-none x.0 i, or-false x.1 i)
+
+pub merged-assoc : (x y z : Told) → merged (merged x y) z ≡ merged x (merged y z)
+merged-assoc x y z i = (higher-assoc x.0 y.0 z.0 i, or-assoc x.1 y.1 z.1 i)
+
+merged-shuffle : (a b c d : Told) → merged (merged a b) (merged c d) ≡ merged (merged a c) (merged b d)
+merged-shuffle a b c d i = (higher-shuffle a.0 b.0 c.0 d.0 i, or-shuffle a.1 b.1 c.1 d.1 i)
+
+-- ---- one use
+
+abbrev count : Bool → Bool → ℕ → ℕ
+count p r l = higher (if p then l else 0) (if r then raised l else 0)
+
+count-none : (p r : Bool) → count p r 0 ≡ 0
+count-none p r = grind arith
+
+count-higher : (p r : Bool) (l m : ℕ) → count p r (higher l m) ≡ higher (count p r l) (count p r m)
+count-higher true true l m = ap (higher (higher l m)) (raised-higher l m) ∙ higher-shuffle l m (raised l) (raised m)
+count-higher true false l m = grind arith
+count-higher false true l m = grind arith
+count-higher false false l m = refl
+
+count-both : (p r q s : Bool) (l : ℕ) → count (p || q) (r || s) l ≡ higher (count p r l) (count q s l)
+count-both p r q s l = grind arith
+
+count-passed : (p r q s : Bool) (l : ℕ) → count (p && q) ((p && s) || (r && (q || s))) l ≡ count p r (count q s l)
+count-passed p r q s l = grind arith
+
+count-raised : (p r : Bool) (l : ℕ) → count false (p || r) l ≡ raised (count p r l)
+count-raised p r l = grind arith
+
+over-none : (o : Option ℕ) → is_over o 0 ≡ false
+over-none None = refl
+over-none (Some k) = grind arith
+
+over-higher : (o : Option ℕ) (l m : ℕ) → is_over o (higher l m) ≡ (is_over o l || is_over o m)
+over-higher None l m = refl
+over-higher (Some k) l m = grind arith
 
 over-stricter : (a b : Option ℕ) (l : ℕ) → is_over (stricter a b) l ≡ (is_over a l || is_over b l)
 over-stricter None b l = refl
 over-stricter (Some k) None l = sym (or-false (nat_lt k l))
 over-stricter (Some k) (Some m) l = grind arith
 
--- ---- a level that counts or not
-
-abbrev pick : Bool → ℕ → ℕ
-pick b l = if b then l else 0
-
-pick-or : (a b : Bool) (l : ℕ) → pick (a || b) l ≡ higher (pick a l) (pick b l)
-pick-or true true l = sym (higher-same l)
-pick-or true false l = sym (higher-none l)
-pick-or false b l = sym (higher-zero (pick b l))
-
-pick-and : (a b : Bool) (l : ℕ) → pick (a && b) l ≡ pick a (pick b l)
-pick-and true b l = refl
-pick-and false b l = refl
-
-pick-higher : (a : Bool) (l m : ℕ) → pick a (higher l m) ≡ higher (pick a l) (pick a m)
-pick-higher true l m = refl
-pick-higher false l m = refl
-
-raised-pick : (a : Bool) (l : ℕ) → raised (pick a l) ≡ pick a (raised l)
-raised-pick true l = refl
-raised-pick false l = refl
-
-pub counted-none : (u : Use) → counted u 0 ≡ 0
-counted-none u = go u.plain u.raised
-  where
-    go : (a b : Bool) → higher (pick a 0) (pick b 0) ≡ 0
-    go true true = refl
-    go true false = refl
-    go false true = refl
-    go false false = refl
-
-counted-higher : (u : Use) (l m : ℕ) → counted u (higher l m) ≡ higher (counted u l) (counted u m)
-counted-higher u l m =
-    (λ i. higher (pick-higher u.plain l m i) ((ap (pick u.raised) (raised-higher l m) ∙ pick-higher u.raised (raised l) (raised m)) i))
-    ∙ higher-shuffle (pick u.plain l) (pick u.plain m) (pick u.raised (raised l)) (pick u.raised (raised m))
-
-counted-both : (u v : Use) (l : ℕ) → counted (both u v) l ≡ higher (counted u l) (counted v l)
-counted-both u v l =
-    (λ i. higher (pick-or u.plain v.plain l i) (pick-or u.raised v.raised (raised l) i))
-    ∙ higher-shuffle (pick u.plain l) (pick v.plain l) (pick u.raised (raised l)) (pick v.raised (raised l))
-
--- a level that counts, once raised
-raised-counted : (u : Use) (l : ℕ) → raised (counted u l) ≡ pick (u.plain || u.raised) (raised l)
-raised-counted u l =
-    raised-higher (pick u.plain l) (pick u.raised (raised l))
-    ∙ (λ i. higher (raised-pick u.plain l i) ((raised-pick u.raised (raised l) ∙ ap (pick u.raised) (raised-raised l)) i))
-    ∙ sym (pick-or u.plain u.raised (raised l))
-
-counted-raised : (u : Use) (l : ℕ) → counted (raised_use u) l ≡ raised (counted u l)
-counted-raised u l = higher-zero (pick (u.plain || u.raised) (raised l)) ∙ sym (raised-counted u l)
-
-counted-passed : (u v : Use) (l : ℕ) → counted (passed u v) l ≡ counted u (counted v l)
-counted-passed u v l =
-    let a = pick-and u.plain v.plain l in
-    let b = pick-or (u.plain && v.raised) (u.raised && (v.plain || v.raised)) (raised l) in
-    let c = pick-and u.plain v.raised (raised l) in
-    let d = pick-and u.raised (v.plain || v.raised) (raised l) ∙ ap (pick u.raised) (sym (raised-counted v l)) in
-    (λ i. higher (a i) ((b ∙ (λ j. higher (c j) (d j))) i))
-    ∙ sym (higher-assoc (pick u.plain (pick v.plain l)) (pick u.plain (pick v.raised (raised l))) (pick u.raised (raised (counted v l))))
-    ∙ ap (λ x. higher x (pick u.raised (raised (counted v l)))) (sym (pick-higher u.plain (pick v.plain l) (pick v.raised (raised l))))
-
-over-asked-plain : (k : ℕ) (b : Bool) (l : ℕ) → is_over (asked_plain k b) l ≡ nat_lt k (pick b l)
-over-asked-plain k true l = refl
-over-asked-plain k false l = sym (over-none k)
-
-over-asked-raised : (k : ℕ) (b : Bool) (l : ℕ) → is_over (asked_raised k b) l ≡ nat_lt k (pick b (raised l))
-over-asked-raised k false l = sym (over-none k)
-over-asked-raised k true zero = by-test (nat_lt k 2) ∙ sym (over-none k)
-  where
-    by-test : (t : Bool) → is_over (if t then Some 0 else None) 0 ≡ false
-    by-test true = refl
-    by-test false = refl
-over-asked-raised k true (suc l) = by-test (nat_lt k 2)
-  where
-    by-test : (t : Bool) → is_over (if t then Some 0 else None) (suc l) ≡ t
-    by-test true = grind arith
-    by-test false = refl
-
 over-asked : (k : ℕ) (u : Use) (l : ℕ) → is_over (asked k u) l ≡ nat_lt k (counted u l)
 over-asked k u l =
-    over-stricter (asked_plain k u.plain) (asked_raised k u.raised) l
-    ∙ (λ i. over-asked-plain k u.plain l i || over-asked-raised k u.raised l i)
-    ∙ sym (over-higher k (pick u.plain l) (pick u.raised (raised l)))
+    over-stricter (if u.plain then Some k else None) (if u.raised && nat_lt k 2 then Some 0 else None) l
+    ∙ (λ i. by-test u.plain k i || by-test (u.raised && nat_lt k 2) 0 i)
+    ∙ numbers u.plain u.raised
+  where
+    by-test : (t : Bool) (m : ℕ) → is_over (if t then Some m else None) l ≡ (t && nat_lt m l)
+    by-test true m = refl
+    by-test false m = refl
 
--- ---- lists of uses
-
-level-from-all : (us vs : List Use) (ls : List ℕ) → level_from (all_uses us vs) ls ≡ higher (level_from us ls) (level_from vs ls)
-level-from-all [] vs ls = sym (higher-zero (level_from vs ls))
-level-from-all (u ∷ us) [] ls = sym (higher-none (level_from (u ∷ us) ls))
-level-from-all (u ∷ us) (v ∷ vs) [] = refl
-level-from-all (u ∷ us) (v ∷ vs) (l ∷ ls) =
-    (λ i. higher (counted-both u v l i) (level-from-all us vs ls i))
-    ∙ higher-shuffle (counted u l) (counted v l) (level_from us ls) (level_from vs ls)
-
-breaks-all : (us vs : List Use) (ls : List ℕ) → breaks (all_uses us vs) ls ≡ (breaks us ls || breaks vs ls)
-breaks-all [] vs ls = refl
-breaks-all (u ∷ us) [] ls = sym (or-false (breaks (u ∷ us) ls))
-breaks-all (u ∷ us) (v ∷ vs) [] = refl
-breaks-all (u ∷ us) (v ∷ vs) (l ∷ ls) =
-    (λ i. over-stricter u.limit v.limit l i || breaks-all us vs ls i)
-    ∙ or-shuffle (is_over u.limit l) (is_over v.limit l) (breaks us ls) (breaks vs ls)
-
-level-from-kept : (us : List Use) (ls : List ℕ) → level_from (map kept us) ls ≡ 0
-level-from-kept [] ls = refl
-level-from-kept (u ∷ us) [] = refl
-level-from-kept (u ∷ us) (l ∷ ls) = ap (higher 0) (level-from-kept us ls)
-
-breaks-kept : (us : List Use) (ls : List ℕ) → breaks (map kept us) ls ≡ breaks us ls
-breaks-kept [] ls = refl
-breaks-kept (u ∷ us) [] = refl
-breaks-kept (u ∷ us) (l ∷ ls) = ap (λ b. is_over u.limit l || b) (breaks-kept us ls)
-
-level-from-raised : (us : List Use) (ls : List ℕ) → level_from (map raised_use us) ls ≡ raised (level_from us ls)
-level-from-raised [] ls = refl
-level-from-raised (u ∷ us) [] = refl
-level-from-raised (u ∷ us) (l ∷ ls) =
-    (λ i. higher (counted-raised u l i) (level-from-raised us ls i)) ∙ sym (raised-higher (counted u l) (level_from us ls))
-
-breaks-raised : (us : List Use) (ls : List ℕ) → breaks (map raised_use us) ls ≡ breaks us ls
-breaks-raised [] ls = refl
-breaks-raised (u ∷ us) [] = refl
-breaks-raised (u ∷ us) (l ∷ ls) = ap (λ b. is_over u.limit l || b) (breaks-raised us ls)
-
-level-from-capped : (k : ℕ) (us : List Use) (ls : List ℕ) → level_from (map (capped_use k) us) ls ≡ level_from us ls
-level-from-capped k [] ls = refl
-level-from-capped k (u ∷ us) [] = refl
-level-from-capped k (u ∷ us) (l ∷ ls) = ap (higher (counted u l)) (level-from-capped k us ls)
-
-breaks-capped : (k : ℕ) (us : List Use) (ls : List ℕ) → breaks (map (capped_use k) us) ls ≡ (breaks us ls || nat_lt k (level_from us ls))
-breaks-capped k [] ls = sym (over-none k)
-breaks-capped k (u ∷ us) [] = sym (over-none k)
-breaks-capped k (u ∷ us) (l ∷ ls) =
-    (λ i. (over-stricter u.limit (asked k u) l ∙ ap (λ b. is_over u.limit l || b) (over-asked k u l)) i || breaks-capped k us ls i)
-    ∙ or-shuffle (is_over u.limit l) (nat_lt k (counted u l)) (breaks us ls) (nat_lt k (level_from us ls))
-    ∙ ap (λ b. (is_over u.limit l || breaks us ls) || b) (sym (over-higher k (counted u l) (level_from us ls)))
-
-level-from-passed : (u : Use) (us : List Use) (ls : List ℕ) → level_from (map (passed u) us) ls ≡ counted u (level_from us ls)
-level-from-passed u [] ls = sym (counted-none u)
-level-from-passed u (v ∷ us) [] = sym (counted-none u)
-level-from-passed u (v ∷ us) (l ∷ ls) =
-    (λ i. higher (counted-passed u v l i) (level-from-passed u us ls i)) ∙ sym (counted-higher u (counted v l) (level_from us ls))
+    numbers : (p r : Bool) → ((p && nat_lt k l) || ((r && nat_lt k 2) && nat_lt 0 l)) ≡ nat_lt k (count p r l)
+    numbers p r = grind arith
 
 over-passed : (o : Option ℕ) (v : Use) (l : ℕ) → is_over (passed_limit o v) l ≡ is_over o (counted v l)
 over-passed None v l = refl
 over-passed (Some k) v l = over-asked k v l
 
-pub over-nothing : (o : Option ℕ) → is_over o 0 ≡ false
-over-nothing None = refl
-over-nothing (Some k) = over-none k
+told-none : (u : Use) → told_by u 0 ≡ (0, false)
+told-none u i = (count-none u.plain u.raised i, over-none u.limit i)
 
-over-either : (o : Option ℕ) (l m : ℕ) → is_over o (higher l m) ≡ (is_over o l || is_over o m)
-over-either None l m = refl
-over-either (Some k) l m = over-higher k l m
+told-higher : (u : Use) (l m : ℕ) → told_by u (higher l m) ≡ merged (told_by u l) (told_by u m)
+told-higher u l m i = (count-higher u.plain u.raised l m i, over-higher u.limit l m i)
 
-breaks-passed : (u : Use) (us : List Use) (ls : List ℕ) → breaks (map (passed u) us) ls ≡ is_over u.limit (level_from us ls)
-breaks-passed u [] ls = sym (over-nothing u.limit)
-breaks-passed u (v ∷ us) [] = sym (over-nothing u.limit)
-breaks-passed u (v ∷ us) (l ∷ ls) =
-    (λ i. over-passed u.limit v l i || breaks-passed u us ls i) ∙ sym (over-either u.limit (counted v l) (level_from us ls))
+-- ---- lists of uses
+
+pub from-none : (us : List Use) → told_from us [] ≡ (0, false)
+from-none [] = refl
+from-none (u ∷ us) = refl
+
+pub from-zero : (u : Use) (l : ℕ) (x : Told) → l ≡ 0 → x ≡ (0, false) → merged (told_by u l) x ≡ (0, false)
+from-zero u l x e f i = merged ((ap (told_by u) e ∙ told-none u) i) (f i)
+
+from-all : (us vs : List Use) (ls : List ℕ) → told_from (all_uses us vs) ls ≡ merged (told_from us ls) (told_from vs ls)
+from-all [] vs ls = sym (merged-zero (told_from vs ls))
+from-all (u ∷ us) [] ls = sym (merged-none (told_from (u ∷ us) ls))
+from-all (u ∷ us) (v ∷ vs) [] = refl
+from-all (u ∷ us) (v ∷ vs) (l ∷ ls) =
+    (λ i. merged (count-both u.plain u.raised v.plain v.raised l i, over-stricter u.limit v.limit l i) (from-all us vs ls i))
+    ∙ merged-shuffle (told_by u l) (told_by v l) (told_from us ls) (told_from vs ls)
+
+-- uses that are changed, where what they tell is changed so
+from-map : (f : Use → Use) (g : Told → Told) → g (0, false) ≡ (0, false) → ((x y : Told) → g (merged x y) ≡ merged (g x) (g y)) → ((u : Use) (l : ℕ) → told_by (f u) l ≡ g (told_by u l))
+    → (us : List Use) (ls : List ℕ) → told_from (map f us) ls ≡ g (told_from us ls)
+from-map f g z h e [] ls = sym z
+from-map f g z h e (u ∷ us) [] = sym z
+from-map f g z h e (u ∷ us) (l ∷ ls) = (λ i. merged (e u l i) (from-map f g z h e us ls i)) ∙ sym (h (told_by u l) (told_from us ls))
+
+pub from-same : (f : Use → Use) → ((u : Use) (l : ℕ) → told_by (f u) l ≡ told_by u l) → (us : List Use) (ls : List ℕ) → told_from (map f us) ls ≡ told_from us ls
+from-same f = from-map f (λ x. x) refl (λ x y. refl)
+
+pub from-unlimited : (f : Use → Use) → ((u : Use) (l : ℕ) → told_by (f u) l ≡ (counted u l, false)) → (us : List Use) (ls : List ℕ) → told_from (map f us) ls ≡ ((told_from us ls).0, false)
+from-unlimited f = from-map f (λ x. (x.0, false)) refl (λ x y. refl)
+
+from-passed : (u : Use) (us : List Use) (ls : List ℕ) → told_from (map (passed u) us) ls ≡ told_by u (told_from us ls).0
+from-passed u = from-map (passed u) (λ x. told_by u x.0) (told-none u) (λ x y. told-higher u x.0 y.0)
+    (λ v l i. (count-passed u.plain u.raised v.plain v.raised l i, over-passed u.limit v l i))
 
 -- ---- weights
-
-pub level-join : (ls : List ℕ) (v w : Weight) → level_under ls (join v w) ≡ higher (level_under ls v) (level_under ls w)
-level-join ls v w =
-    ap (higher (higher v.least w.least)) (level-from-all v.uses w.uses ls)
-    ∙ higher-shuffle v.least w.least (level_from v.uses ls) (level_from w.uses ls)
 
 pub has-fault-append : (ps qs : List Place) → has_fault (ps ++ qs) ≡ (has_fault ps || has_fault qs)
 has-fault-append [] qs = refl
 has-fault-append (p ∷ ps) qs = refl
 
-pub has-fault-if : (b : Bool) (p : Place) → has_fault (fault_if b p) ≡ b
-has-fault-if true p = refl
-has-fault-if false p = refl
-
-pub fault-join : (ls : List ℕ) (v w : Weight) → fault_under ls (join v w) ≡ (fault_under ls v || fault_under ls w)
-fault-join ls v w =
-    (λ i. has-fault-append v.faults w.faults i || breaks-all v.uses w.uses ls i)
-    ∙ or-shuffle (has_fault v.faults) (has_fault w.faults) (breaks v.uses ls) (breaks w.uses ls)
-
-pub level-fixed : (ls : List ℕ) (l : ℕ) (w : Weight) → level_under ls (fixed l w) ≡ l
-level-fixed ls l w = ap (higher l) (level-from-kept w.uses ls) ∙ higher-none l
-
-pub fault-fixed : (ls : List ℕ) (l : ℕ) (w : Weight) → fault_under ls (fixed l w) ≡ fault_under ls w
-fault-fixed ls l w = ap (λ b. has_fault w.faults || b) (breaks-kept w.uses ls)
-
-pub level-lifted : (ls : List ℕ) (w : Weight) → level_under ls (lifted w) ≡ raised (level_under ls w)
-level-lifted ls w = ap (higher (raised w.least)) (level-from-raised w.uses ls) ∙ sym (raised-higher w.least (level_from w.uses ls))
-
-pub fault-lifted : (ls : List ℕ) (w : Weight) → fault_under ls (lifted w) ≡ fault_under ls w
-fault-lifted ls w = ap (λ b. has_fault w.faults || b) (breaks-raised w.uses ls)
-
-pub level-capped : (ls : List ℕ) (k : ℕ) (w : Weight) → level_under ls (capped k w) ≡ level_under ls w
-level-capped ls k w = ap (higher w.least) (level-from-capped k w.uses ls)
-
-pub fault-capped : (ls : List ℕ) (k : ℕ) (w : Weight) → (fault_under ls (capped k w) || nat_lt k w.least) ≡ (fault_under ls w || nat_lt k (level_under ls w))
-fault-capped ls k w =
-    ap (λ b. (has_fault w.faults || b) || nat_lt k w.least) (breaks-capped k w.uses ls)
-    ∙ order (has_fault w.faults) (breaks w.uses ls) (nat_lt k (level_from w.uses ls)) (nat_lt k w.least)
-    ∙ ap (λ b. (has_fault w.faults || breaks w.uses ls) || b) (sym (over-higher k w.least (level_from w.uses ls)))
+pub has-fault-with : (ps : List Place) (b : Bool) (p : Place) → has_fault (ps ++ fault_if b p) ≡ (has_fault ps || b)
+has-fault-with ps b p = has-fault-append ps (fault_if b p) ∙ ap (λ c. has_fault ps || c) (by-test b)
   where
-    order : (a b c d : Bool) → ((a || (b || c)) || d) ≡ ((a || b) || (d || c))
-    order true b c d = refl
-    order false true c d = refl
-    order false false true true = refl
-    order false false true false = refl
-    order false false false true = refl
-    order false false false false = refl
+    by-test : (b : Bool) → has_fault (fault_if b p) ≡ b
+    by-test true = refl
+    by-test false = refl
 
-pub fault-with : (ls : List ℕ) (b : Bool) (p : Place) (w : Weight) → fault_under ls (with_fault b p w) ≡ (fault_under ls w || b)
-fault-with ls b p w =
-    ap (λ c. c || breaks w.uses ls) (has-fault-append w.faults (fault_if b p) ∙ ap (λ c. has_fault w.faults || c) (has-fault-if b p))
-    ∙ order (has_fault w.faults) b (breaks w.uses ls)
+-- a fault, if so
+abbrev pub faulty : Bool → Told → Told
+faulty b x = (x.0, x.1 || b)
+
+pub under-join : (ls : List ℕ) (v w : Weight) → told_under ls (join v w) ≡ merged (told_under ls v) (told_under ls w)
+under-join ls v w =
+    (λ i. merged (higher v.least w.least, has-fault-append v.faults w.faults i) (from-all v.uses w.uses ls i))
+    ∙ merged-shuffle (v.least, has_fault v.faults) (w.least, has_fault w.faults) (told_from v.uses ls) (told_from w.uses ls)
+
+pub under-fixed : (ls : List ℕ) (l : ℕ) (w : Weight) → told_under ls (fixed l w) ≡ (l, (told_under ls w).1)
+under-fixed ls l w =
+    ap (merged (l, has_fault w.faults)) (from-map kept (λ x. (0, x.1)) refl (λ x y. refl) (λ u m. refl) w.uses ls)
+    ∙ (λ i. (higher-none l i, (told_under ls w).1))
+
+pub under-lifted : (ls : List ℕ) (w : Weight) → told_under ls (lifted w) ≡ (raised (told_under ls w).0, (told_under ls w).1)
+under-lifted ls w =
+    ap (merged (raised w.least, has_fault w.faults))
+    (from-map raised_use (λ x. (raised x.0, x.1)) refl (λ x y i. (raised-higher x.0 y.0 i, x.1 || y.1)) (λ u l i. (count-raised u.plain u.raised l i, is_over u.limit l)) w.uses ls)
+    ∙ (λ i. (sym (raised-higher w.least (told_from w.uses ls).0) i, (told_under ls w).1))
+
+pub under-capped : (ls : List ℕ) (k : ℕ) (w : Weight) → faulty (nat_lt k w.least) (told_under ls (capped k w)) ≡ faulty (nat_lt k (told_under ls w).0) (told_under ls w)
+under-capped ls k w =
+    ap (λ x. faulty (nat_lt k w.least) (merged (w.least, has_fault w.faults) x))
+    (from-map (capped_use k) (λ x. faulty (nat_lt k x.0) x) (λ i. (0, over-none (Some k) i)) (λ x y i. (higher x.0 y.0, either x.1 y.1 x.0 y.0 i))
+    (λ u l i. (counted u l, (over-stricter u.limit (asked k u) l ∙ ap (λ b. is_over u.limit l || b) (over-asked k u l)) i)) w.uses ls)
+    ∙ (λ i. (higher w.least (told_from w.uses ls).0, least (has_fault w.faults) (told_from w.uses ls).1 w.least (told_from w.uses ls).0 i))
+  where
+    either : (a b : Bool) (l m : ℕ) → ((a || b) || nat_lt k (higher l m)) ≡ ((a || nat_lt k l) || (b || nat_lt k m))
+    either a b l m = grind arith
+
+    least : (a b : Bool) (l m : ℕ) → ((a || (b || nat_lt k m)) || nat_lt k l) ≡ ((a || b) || nat_lt k (higher l m))
+    least a b l m = grind arith
+
+pub under-with : (ls : List ℕ) (b : Bool) (p : Place) (w : Weight) → told_under ls (with_fault b p w) ≡ faulty b (told_under ls w)
+under-with ls b p w i = (higher w.least (told_from w.uses ls).0, (ap (λ c. c || (told_from w.uses ls).1) (has-fault-with w.faults b p) ∙ order (has_fault w.faults) b (told_from w.uses ls).1) i)
   where
     order : (a b c : Bool) → ((a || b) || c) ≡ ((a || c) || b)
-    order true b c = refl
-    order false true true = refl
-    order false true false = refl
-    order false false true = refl
-    order false false false = refl
+    order a b c = grind arith
 
 -- ---- arguments
 
-pub level-put : (us : List Use) (ws : List Weight) (ls : List ℕ) → level_from us (map (level_under ls) ws) ≡ level_under ls (put us ws)
-level-put [] ws ls = refl
-level-put (u ∷ us) [] ls = refl
-level-put (u ∷ us) (w ∷ ws) ls =
-    let a = ap (higher (counted u w.least)) (level-from-passed u w.uses ls) ∙ sym (counted-higher u w.least (level_from w.uses ls)) in
-    (λ i. higher (sym a i) (level-put us ws ls i)) ∙ sym (level-join ls (argument u w) (put us ws))
-
-pub put-has-no-fault : (us : List Use) (ws : List Weight) → (put us ws).faults ≡ []
-put-has-no-fault [] ws = refl
-put-has-no-fault (u ∷ us) [] = refl
-put-has-no-fault (u ∷ us) (w ∷ ws) = put-has-no-fault us ws
-
-pub breaks-put : (us : List Use) (ws : List Weight) (ls : List ℕ) → breaks us (map (level_under ls) ws) ≡ (put_breaks us ws || breaks (put us ws).uses ls)
-breaks-put [] ws ls = refl
-breaks-put (u ∷ us) [] ls = refl
-breaks-put (u ∷ us) (w ∷ ws) ls =
-    (λ i. (over-either u.limit w.least (level_from w.uses ls) ∙ ap (λ b. is_over u.limit w.least || b) (sym (breaks-passed u w.uses ls))) i || breaks-put us ws ls i)
-    ∙ or-shuffle (is_over u.limit w.least) (breaks (map (passed u) w.uses) ls) (put_breaks us ws) (breaks (put us ws).uses ls)
-    ∙ ap (λ b. (is_over u.limit w.least || put_breaks us ws) || b) (sym (breaks-all (map (passed u) w.uses) (put us ws).uses ls))
+pub told-put : (p : Place) (us : List Use) (ws : List Weight) (ls : List ℕ) → told_from us (map (λ w. (told_under ls w).0) ws) ≡ told_under ls (put p us ws)
+told-put p [] ws ls = refl
+told-put p (u ∷ us) [] ls = refl
+told-put p (u ∷ us) (w ∷ ws) ls =
+    (λ i. merged (told-higher u w.least (told_from w.uses ls).0 i) (told-put p us ws ls i))
+    ∙ (λ i. merged (merged (counted u w.least, sym (has-fault-with [] (is_over u.limit w.least) p) i) (sym (from-passed u w.uses ls) i)) (told_under ls (put p us ws)))
+    ∙ sym (under-join ls (argument p u w) (put p us ws))

@@ -1,76 +1,68 @@
 -- What is kept of a definition is what it has.
-use Rattle.std.proofs.Common.{◌≡◌, ◌<◌, ◌++◌, ◌+◌, ℕ, zero, suc, Bool, true, false, nat_eq, if◌then◌else◌, List, [], ◌∷◌, take, length, get_or, Option, refl, sym, ap, subst, ◌∙◌, arith}
+use Rattle.std.proofs.Common.{◌≡◌, ◌<◌, ◌++◌, ◌+◌, ℕ, Bool, true, false, nat_eq, if◌then◌else◌, List, [], ◌∷◌, take, length, get_or, Option, refl, sym, ap, ◌∙◌, arith}
 use lib.ListN.{set}
+use Rattle.std.proofs.lemmas.Bool.Decides.{nat_tests}
+use Rattle.std.proofs.lemmas.Grind.{common_steps, get_or-set_at}
+use Rattle.std.proofs.lemmas.List.{get_or-set_other}
 use Rattle.tla_ast.specs.declared.place.Place.{Place}
 use Rattle.tla_ast.specs.declared.tree.Decl.{Decl}
 use Rattle.plain_syntax.specs.Plain.{Term}
 use Rattle.symbol_table.specs.Symbols.{symbol_at}
 use Rattle.expression_level.specs.Levels.{Levels, Applied, higher, told, level, constantly, bound, definition_level, declared_level}
 use Rattle.expression_level.specs.Levels as l
-use Rattle.expression_level.specs.Weights.{Known, depth_of, function_of, padded, definition, with_parameters, weigh}
+use Rattle.expression_level.specs.Primed.{primed_parameters}
+use Rattle.expression_level.proofs.Occurring.{primed-next, blank-closed}
+use Rattle.expression_level.specs.Weights.{Known, primed_first, depth_of, function_of, padded, definition}
 use Rattle.expression_level.specs.Weights.Known.{arguments, defined}
-use Rattle.expression_level.specs.Scope.{names_of, declared_env, body_weight, weight_of}
-use Rattle.expression_level.specs.Store.{levels_of, AllClosed}
-use Rattle.expression_level.proofs.Evaluation.{higher-none}
+use Rattle.expression_level.specs.Scope.{Env, names_of, body_weight, weight_of, with_parameters, weigh}
+use Rattle.expression_level.specs.Store.{levels_of, flags_of, AllClosed}
+use Rattle.symbol_table.specs.declared.entry.Entry.{Entry}
+use Rattle.expression_level.proofs.Evaluation.{higher-none, from-none}
 use Rattle.expression_level.proofs.Agreement.{Knows}
-use Rattle.expression_level.proofs.Linear.{Agree, agree-inside, stands, knows-definition, no-level}
+use Rattle.expression_level.proofs.Linear.{Agree, agree-inside, stands, knows-definition}
 
 abbrev pub at_first : Known
 at_first = defined 0 0 [] false
 
-closed-at : (ks : List Known) (n : ℕ) → AllClosed ks → depth_of (get_or ks n arguments) ≡ 0
-closed-at [] n c = refl
-closed-at (k ∷ ks) zero c = c.0
-closed-at (k ∷ ks) (suc n) c = closed-at ks n c.1
+abbrev declared_env : List Known → Env
+declared_env ks = record { declared = ks; locals = [] }
 
-agrees : (m : Place → Option ℕ) (ks : List Known) → AllClosed ks → Agree m [] 0 (levels_of ks) (declared_env ks) 0 at_first
-agrees m ks c = (refl, (λ n. ((let e = closed-at ks n c in omega (arith, e)), λ args. refl), (omega arith, λ args i. (sym (higher-none 0) i, false))))
+agrees : (m : Place → Option ℕ) (fs : Option ℕ → List Bool) (ks : List Known) → AllClosed ks → Agree m fs [] 0 (levels_of ks) (declared_env ks) 0 at_first
+agrees m fs ks c = (refl, (λ n. ((let e = c n in omega (arith, e)), λ args. refl), (omega arith, λ args. refl)))
 
-known-definition : (m : Place → Option ℕ) (ks : List Known) → AllClosed ks → (ps : List Decl) (t : Term)
-    → Knows [] (λ args. told (level m (l.with_parameters m (levels_of ks) ps args) 0 t)) (definition 0 (length ps) (weigh m (0 + length ps) (with_parameters m 0 (declared_env ks) ps) at_first t))
-known-definition m ks c ps t =
-    knows-definition [] 0 (length ps) (λ args. level m (l.with_parameters m (levels_of ks) ps args) 0 t) (weigh m (0 + length ps) (with_parameters m 0 (declared_env ks) ps) at_first t) refl
-    (λ args. stands m ([] ++ padded (length ps) args) (0 + length ps) (l.with_parameters m (levels_of ks) ps args) (with_parameters m 0 (declared_env ks) ps) 0 at_first
-    (agree-inside m [] 0 (levels_of ks) (declared_env ks) 0 at_first ps args (agrees m ks c)) t)
+known-definition : (m : Place → Option ℕ) (fs : Option ℕ → List Bool) (ks : List Known) → AllClosed ks → (ps : List Decl) (t : Term)
+    → Knows [] (λ args. told (level m (l.with_parameters m (levels_of ks) ps args) 0 t)) (definition 0 (length ps) (weigh m fs (0 + length ps) (with_parameters m 0 (declared_env ks) ps) at_first t))
+known-definition m fs ks c ps t =
+    knows-definition [] 0 (length ps) (λ args. level m (l.with_parameters m (levels_of ks) ps args) 0 t) (weigh m fs (0 + length ps) (with_parameters m 0 (declared_env ks) ps) at_first t) refl
+    (λ args. stands m fs ([] ++ padded (length ps) args) (0 + length ps) (l.with_parameters m (levels_of ks) ps args) (with_parameters m 0 (declared_env ks) ps) 0 at_first
+    (agree-inside m fs [] 0 (levels_of ks) (declared_env ks) 0 at_first ps args (agrees m fs ks c)) t)
 
-pub definition-is : (ss : List (Place × ℕ)) (ks : List Known) → AllClosed ks → (ps : List Decl) (t : Term)
-    → function_of [] (definition 0 (length ps) (body_weight (names_of ss ks) 0 at_first ps t)) ≡ definition_level (symbol_at ss) (levels_of ks) ps t
-definition-is ss ks c ps t i args = sym ((known-definition (symbol_at ss) ks c ps t).1 args) i
+pub definition-is : (ss : List (Place × ℕ)) (es : List Entry) (ks : List Known) → AllClosed ks → (ps : List Decl) (t : Term)
+    → function_of [] (definition 0 (length ps) (body_weight (names_of ss es ks) 0 at_first ps t)) ≡ definition_level (symbol_at ss) (levels_of ks) ps t
+definition-is ss es ks c ps t i args = sym ((known-definition (symbol_at ss) (flags_of es) ks c ps t).1 args) i
 
-pub least-is : (ss : List (Place × ℕ)) (ks : List Known) → AllClosed ks → (ps : List Decl) (t : Term)
-    → (body_weight (names_of ss ks) 0 at_first ps t).least ≡ (definition_level (symbol_at ss) (levels_of ks) ps t []).0
-least-is ss ks c ps t =
-    let w = body_weight (names_of ss ks) 0 at_first ps t in
-    sym (ap (higher w.least) (no-level (take (0 + length ps) w.uses)) ∙ higher-none w.least)
-    ∙ ap (λ (f : Applied). (f []).0) (definition-is ss ks c ps t)
+pub least-is : (ss : List (Place × ℕ)) (es : List Entry) (ks : List Known) → AllClosed ks → (ps : List Decl) (t : Term)
+    → (body_weight (names_of ss es ks) 0 at_first ps t).least ≡ (definition_level (symbol_at ss) (levels_of ks) ps t []).0
+least-is ss es ks c ps t =
+    let w = body_weight (names_of ss es ks) 0 at_first ps t in
+    sym (ap (λ x. higher w.least x.0) (from-none (take (0 + length ps) w.uses)) ∙ higher-none w.least)
+    ∙ ap (λ (f : Applied). (f []).0) (definition-is ss es ks c ps t)
 
-pub judged-is : (ss : List (Place × ℕ)) (ks : List Known) → AllClosed ks → (t : Term)
-    → ((weight_of (names_of ss ks) 0 at_first t).least, (weight_of (names_of ss ks) 0 at_first t).faults) ≡ level (symbol_at ss) (levels_of ks) 0 t
-judged-is ss ks c t =
-    let w = weight_of (names_of ss ks) 0 at_first t in
-    let s = stands (symbol_at ss) [] 0 (levels_of ks) (declared_env ks) 0 at_first (agrees (symbol_at ss) ks c) t in
-    sym (λ i. ((s.0 ∙ ap (higher w.least) (no-level w.uses) ∙ higher-none w.least) i, s.1.1 tt i))
+pub primed-is : (ss : List (Place × ℕ)) (es : List Entry) (ks : List Known) → AllClosed ks → (ps : List Decl) (t : Term)
+    → primed_first (body_weight (names_of ss es ks) 0 at_first ps t).uses (0 + length ps) ≡ primed_parameters (symbol_at ss) (flags_of es) ps t
+primed-is ss es ks c ps t = primed-next (symbol_at ss) (flags_of es) at_first t _ 0 ps (declared_env ks) refl (λ j n h. blank-closed (get_or ks n arguments) j (c n)) refl
+
+pub judged-is : (ss : List (Place × ℕ)) (es : List Entry) (ks : List Known) → AllClosed ks → (t : Term)
+    → ((weight_of (names_of ss es ks) 0 at_first t).least, (weight_of (names_of ss es ks) 0 at_first t).faults) ≡ level (symbol_at ss) (levels_of ks) 0 t
+judged-is ss es ks c t =
+    let w = weight_of (names_of ss es ks) 0 at_first t in
+    let s = stands (symbol_at ss) (flags_of es) [] 0 (levels_of ks) (declared_env ks) 0 at_first (agrees (symbol_at ss) (flags_of es) ks c) t in
+    sym (λ i. ((ap (λ x. x.0) s.0 ∙ ap (λ x. higher w.least x.0) (from-none w.uses) ∙ higher-none w.least) i, s.1 tt i))
 
 -- ---- the list of what is kept
 
-pub constant-is : (k : ℕ) → function_of [] (defined 0 k [] false) ≡ declared_level k false
-constant-is k i args = (higher-none k i, false)
-
 set-at : (ks : List Known) (n m : ℕ) (k : Known) → n < length ks → get_or (set ks n k) m arguments ≡ (if nat_eq n m then k else get_or ks m arguments)
-set-at [] n m k h = absurd (omega (arith, h))
-set-at (x ∷ ks) zero zero k h = refl
-set-at (x ∷ ks) zero (suc m) k h = sym (ap (λ t. if t then k else get_or ks m arguments) (differs m))
-  where
-    differs : (m : ℕ) → nat_eq 0 (suc m) ≡ false
-    differs m = grind arith
-set-at (x ∷ ks) (suc n) zero k h = sym (ap (λ t. if t then k else x) (differs n))
-  where
-    differs : (m : ℕ) → nat_eq (suc m) 0 ≡ false
-    differs m = grind arith
-set-at (x ∷ ks) (suc n) (suc m) k h = set-at ks n m k (omega (arith, h)) ∙ ap (λ t. if t then k else get_or ks m arguments) (same n m)
-  where
-    same : (a b : ℕ) → nat_eq a b ≡ nat_eq (suc a) (suc b)
-    same a b = grind arith
+set-at ks n m k h = grind (arith, nat_tests, get_or-set_at {X = Known}, get_or-set_other {A = Known})
 
 pub levels-set : (ks : List Known) (n : ℕ) (k : Known) → n < length ks → levels_of (set ks n k) ≡ bound n (function_of [] k) (levels_of ks)
 levels-set ks n k h i m = (ap (function_of []) (set-at ks n m k h) ∙ chosen (nat_eq n m)) i
@@ -79,23 +71,8 @@ levels-set ks n k h i m = (ap (function_of []) (set-at ks n m k h) ∙ chosen (n
     chosen true = refl
     chosen false = refl
 
-pub closed-set : (ks : List Known) (n : ℕ) (k : Known) → AllClosed ks → depth_of k ≡ 0 → AllClosed (set ks n k)
-closed-set [] n k c h = tt
-closed-set (x ∷ ks) zero k c h = (h, c.1)
-closed-set (x ∷ ks) (suc n) k c h = (c.0, closed-set ks n k c.1 h)
+pub closed-set : (ks : List Known) (n : ℕ) (k : Known) → n < length ks → AllClosed ks → depth_of k ≡ 0 → AllClosed (set ks n k)
+closed-set ks n k h c e m = let s = set-at ks n m k h in let d = c m in grind (arith, s, d)
 
-more-at : (ks : List Known) (n : ℕ) → get_or (ks ++ arguments ∷ []) n arguments ≡ get_or ks n arguments
-more-at [] zero = refl
-more-at [] (suc n) = refl
-more-at (k ∷ ks) zero = refl
-more-at (k ∷ ks) (suc n) = more-at ks n
-
-pub levels-more : (ks next : List Known) → next ≡ ks ++ arguments ∷ [] → levels_of next ≡ levels_of ks
-levels-more ks next e = ap levels_of e ∙ (λ i n. function_of [] (more-at ks n i))
-
-closed-one : (ks : List Known) → AllClosed ks → AllClosed (ks ++ arguments ∷ [])
-closed-one [] c = (refl, tt)
-closed-one (k ∷ ks) c = (c.0, closed-one ks c.1)
-
-pub closed-more : (ks next : List Known) → next ≡ ks ++ arguments ∷ [] → AllClosed ks → AllClosed next
-closed-more ks next e c = subst AllClosed (sym e) (closed-one ks c)
+pub more-at : (ks next : List Known) (n : ℕ) → next ≡ ks ++ arguments ∷ [] → get_or next n arguments ≡ get_or ks n arguments
+more-at ks next n e = grind (arith, common_steps)

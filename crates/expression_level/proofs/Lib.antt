@@ -6,4 +6,4 @@ mod Puts
 mod Locals
 mod Walks
 mod Kept
-mod Seeing
+mod Occurring

@@ -1,26 +1,11 @@
 -- Loops over uses, one step after another.
-use Rattle.std.proofs.Common.{◌≡◌, ℕ, zero, suc, ◌+◌, ◌≤◌, ◌<◌, nat_lt, if◌then◌else◌, Option, Some, None, List, [], ◌∷◌, ◌++◌, append_assoc, append-nil, map, take, drop, length, get_or, refl, sym, ap, subst, ◌∙◌, arith, add-one}
+use Rattle.std.proofs.Common.{◌≡◌, ℕ, zero, suc, ◌+◌, ◌≤◌, ◌<◌, nat_lt, if◌then◌else◌, Option, Some, None, List, [], ◌∷◌, ◌++◌, append_assoc, append-nil, take, length, get_or, refl, sym, ap, subst, arith, add-one}
 use lib.ListN.{set}
 use Rattle.std.proofs.lemmas.List.{length-take}
+use Rattle.std.proofs.Math.Seq.{take-suc}
 use Rattle.expression_level.specs.declared.weight.Use.{Use}
 use Rattle.expression_level.specs.Weights.{Weight, both, stricter, all_uses, nothing, join}
 use Rattle.expression_level.proofs.Evaluation.{higher-zero, higher-none, higher-assoc, or-assoc}
-
-map-next : (f : Use → Use) (xs : List Use) (i : ℕ) (d : Use) → i < length (map f (take i xs) ++ drop i xs)
-    → set (map f (take i xs) ++ drop i xs) i (f (get_or (map f (take i xs) ++ drop i xs) i d)) ≡ map f (take (suc i) xs) ++ drop (suc i) xs
-map-next f [] zero d h = absurd (grind arith)
-map-next f [] (suc i) d h = absurd (grind arith)
-map-next f (x ∷ xs) zero d h = refl
-map-next f (x ∷ xs) (suc i) d h = ap (λ l. f x ∷ l) (map-next f xs i d (omega (arith, h)))
-
--- one more item is changed in its place
-pub change-next : (f : Use → Use) (xs us : List Use) (i : ℕ) (x y : Use) → i < length us → us ≡ map f (take i xs) ++ drop i xs → x ≡ get_or us i x → y ≡ f x
-    → set us i y ≡ map f (take (i + 1) xs) ++ drop (i + 1) xs
-change-next f xs us i x y h e a b =
-    ap (λ z. set us i z) (b ∙ ap f a)
-    ∙ ap (λ l. set l i (f (get_or l i x))) e
-    ∙ map-next f xs i x (subst (λ l. i < length l) e h)
-    ∙ ap (λ n. map f (take n xs) ++ drop n xs) (sym (add-one i))
 
 all-with-none : (us : List Use) → all_uses us [] ≡ us
 all-with-none [] = refl
@@ -33,14 +18,9 @@ both-next (u ∷ us) [] i d e h k = absurd (grind arith)
 both-next (u ∷ us) (v ∷ vs) zero d e h k = ap (λ l. both u v ∷ l) (sym (all-with-none us))
 both-next (u ∷ us) (v ∷ vs) (suc i) d e h k = ap (λ l. both u v ∷ l) (both-next us vs i d e (omega (arith, h)) (omega (arith, k)))
 
-pub last-next : {X : Type 0} (vs : List X) (i : ℕ) (e : X) → i < length vs → take i vs ++ get_or vs i e ∷ [] ≡ take (suc i) vs
-last-next [] i e h = absurd (grind arith)
-last-next (v ∷ vs) zero e h = refl
-last-next (v ∷ vs) (suc i) e h = ap (λ l. v ∷ l) (last-next vs i e (omega (arith, h)))
-
 more-next : (us vs : List Use) (i : ℕ) (e : Use) → i < length vs → length (all_uses us (take i vs)) ≤ i
     → all_uses us (take i vs) ++ get_or vs i e ∷ [] ≡ all_uses us (take (suc i) vs)
-more-next [] vs i e h k = last-next vs i e h
+more-next [] vs i e h k = sym (take-suc vs i e h)
 more-next (u ∷ us) [] i e h k = absurd (grind arith)
 more-next (u ∷ us) (v ∷ vs) zero e h k = absurd (grind arith)
 more-next (u ∷ us) (v ∷ vs) (suc i) e h k = ap (λ l. both u v ∷ l) (more-next us vs i e (omega (arith, h)) (omega (arith, k)))
@@ -49,17 +29,11 @@ more-next (u ∷ us) (v ∷ vs) (suc i) e h k = ap (λ l. both u v ∷ l) (more-
 pub join-next : (us vs now : List Use) (i : ℕ) (x y e : Use) → now ≡ all_uses us (take i vs) → i < length vs → i < length now → x ≡ get_or now i x → y ≡ both x (get_or vs i e)
     → set now i y ≡ all_uses us (take (i + 1) vs)
 join-next us vs now i x y e n h k a b =
-    ap (λ z. set now i z) (b ∙ ap (λ z. both z (get_or vs i e)) a)
-    ∙ ap (λ l. set l i (both (get_or l i x) (get_or vs i e))) n
-    ∙ both-next us vs i x e h (subst (λ l. i < length l) n k)
-    ∙ ap (λ m. all_uses us (take m vs)) (sym (add-one i))
+    let s = both-next us vs i x e h (subst (λ l. i < length l) n k) in let t = ap (λ m. all_uses us (take m vs)) (add-one i) in cc
 
 -- and where there is none it is put behind the others
 pub join-more : (us vs now : List Use) (i : ℕ) (e : Use) → now ≡ all_uses us (take i vs) → i < length vs → length now ≤ i → now ++ get_or vs i e ∷ [] ≡ all_uses us (take (i + 1) vs)
-join-more us vs now i e n h k =
-    ap (λ l. l ++ get_or vs i e ∷ []) n
-    ∙ more-next us vs i e h (subst (λ l. length l ≤ i) n k)
-    ∙ ap (λ m. all_uses us (take m vs)) (sym (add-one i))
+join-more us vs now i e n h k = let s = more-next us vs i e h (subst (λ l. length l ≤ i) n k) in let t = ap (λ m. all_uses us (take m vs)) (add-one i) in cc
 
 pub none-joined : (us : List Use) → us ≡ all_uses us []
 none-joined us = sym (all-with-none us)
@@ -76,7 +50,13 @@ stricter-assoc (Some k) (Some m) (Some n) = ap Some (lower-assoc k m n)
     lower-assoc k m n = grind arith
 
 both-assoc : (u v w : Use) → both (both u v) w ≡ both u (both v w)
-both-assoc u v w i = record { plain = or-assoc u.plain v.plain w.plain i; raised = or-assoc u.raised v.raised w.raised i; limit = stricter-assoc u.limit v.limit w.limit i }
+both-assoc u v w i = record {
+  plain = or-assoc u.plain v.plain w.plain i;
+  raised = or-assoc u.raised v.raised w.raised i;
+  limit = stricter-assoc u.limit v.limit w.limit i;
+  held = or-assoc u.held v.held w.held i;
+  primed = or-assoc u.primed v.primed w.primed i;
+}
 
 uses-assoc : (us vs ws : List Use) → all_uses (all_uses us vs) ws ≡ all_uses us (all_uses vs ws)
 uses-assoc [] vs ws = refl

@@ -1,7 +1,7 @@
 -- The walk of the code over an expression gives its weight.
-use Rattle.std.proofs.Common.{◌≡◌, ◌≤◌, ◌<◌, ◌++◌, ◌+◌, ◌-◌, ℕ, zero, suc, Bool, true, false, if◌then◌else◌, List, [], ◌∷◌, fold, map, take, drop, length, get_or, Option, Some, None, refl, sym, ap, subst, ◌∙◌, arith, append_assoc, append-nil, length-append, drop-cons, add-one}
-use Rattle.std.proofs.lemmas.Grind.{fold-append}
-use Rattle.std.proofs.lemmas.List.{take_at, drop_at}
+use Rattle.std.proofs.Common.{◌≡◌, ◌⊎◌, inl, inr, ◌≤◌, ◌<◌, ◌++◌, ◌+◌, ◌-◌, ℕ, zero, suc, Bool, true, false, if◌then◌else◌, List, [], ◌∷◌, fold, map, take, drop, length, get_or, Option, Some, None, refl, sym, ap, subst, ◌∙◌, arith, append_assoc, append-nil, add-one}
+use Rattle.std.proofs.lemmas.Grind.{fold-append, common_steps}
+use Rattle.std.proofs.lemmas.List.{length-map, nil_from_length}
 use Rattle.std.specs.Prelude.{Result, Ok, Err, IfOk, OnOk}
 use Rattle.std.specs.Borrow.{Bor}
 use Rattle.core_expr.specs.declared.memory.Memory.{Memory}
@@ -18,56 +18,68 @@ use Rattle.tla_ast.specs.declared.tree.Key.TheVariants as key
 use Rattle.tla_ast.specs.declared.tree.Path.{Path, out-Path}
 use Rattle.tla_ast.specs.declared.tree.Group.{Group, out-Group}
 use Rattle.tla_ast.specs.declared.tree.Def.{Def, out-Def}
-use Rattle.plain_syntax.specs.Plain.{Text, Term, Terms, Keys, Groups, Defs}
+use Rattle.plain_syntax.specs.Plain.{Text, Term, Terms, Shape, Keys, Groups, Defs}
 use Rattle.plain_syntax.specs.Plain.Term.{term}
 use Rattle.plain_syntax.specs.Plain.Terms.{none, part}
 use Rattle.plain_syntax.specs.Plain.{Shape as s}
-use Rattle.plain_syntax.specs.Syntax.{Held, shape_of, key_of, def_of, group_of, node_of, path_of, term_of, terms_of, keys_of, key_keys, each_key, groups_of, each_group, each_def, with_domain, set_of, except_of}
+use Rattle.plain_syntax.specs.Syntax.{Held, shape_of, key_of, def_of, group_of, node_of, path_of, term_of, terms_of, keys_of, key_keys, each_key, groups_of, each_def, with_domain, set_of, except_of}
 use Rattle.plain_syntax.specs.Order.{order, orders, joined_by, joins}
-use Rattle.plain_syntax.proofs.Forms.{held, by-form, parts_in, is-name, is-call, is-box, is-angle, is-at, is-except, is-quantifier, is-choice, is-local, is-path, is-key, is-field-key, is-group, is-def}
-use Rattle.expression_level.specs.Weights.{Weight, Known, weigh_each, join, total, nothing, at_name, form_weight, result_so_far, asked_round}
-use Rattle.expression_level.specs.Scope.{Names, at, weight_of, weights_of, turned, count, ruled, by_form, acted, updates_on, excepted, sets_of, keys_on, bodies_of, domain_weight, with_definition, with_definitions, body_weight}
+use Rattle.plain_syntax.proofs.Forms.{held, by-form, parts_in, is-name, is-call, is-box, is-angle, is-except, is-choice, is-path, is-key, is-field-key, is-group, is-def}
+use Rattle.expression_level.specs.Weights.{Weight, Known, acted, primed_if, join, total, nothing, form_weight, result_so_far, asked_round}
+use Rattle.expression_level.specs.Scope.{Names, applied, weight_of, weights_of, turned, count, ruled, by_form, updates_on, excepted, sets_of, keys_on, bodies_of, domain_weight, with_definition, with_all, body_weight}
 use Rattle.expression_level.proofs.Uses.{join-assoc, nothing-joined, joined-nothing}
-use Rattle.expression_level.proofs.Locals.{bodies-next, same-with-definitions, env-with-definitions}
-use Rattle.symbol_table.specs.Symbols.{symbol_at}
+
+-- ---- loops
+
+pub next-one : {X : Type 0} (xs : List X) (i j : ℕ) (x : X) → j ≡ i + 1 → i < length xs → x ≡ get_or xs i x → drop i xs ≡ x ∷ drop j xs
+next-one xs i j x e h a = grind (arith, common_steps)
+
+pub all-past : {X : Type 0} (xs : List X) (i : ℕ) → length xs ≤ i → drop i xs ≡ []
+all-past xs i h = grind (arith, common_steps)
+
+-- one more item of a list that is taken together
+pub rest-next : {X : Type 0} (f : X → Weight) (g : List X → Weight) → ((x : X) (xs : List X) → g (x ∷ xs) ≡ join (f x) (g xs)) → (all now next w : Weight) (xs : List X) (i : ℕ) (x : X)
+    → join now (g (drop i xs)) ≡ all → i < length xs → x ≡ get_or xs i x → w ≡ f x → next ≡ join now w → join next (g (drop (i + 1) xs)) ≡ all
+rest-next f g h all now next w xs i x r l e u n =
+    ap (λ y. join y (g (drop (i + 1) xs))) (n ∙ ap (join now) u) ∙ join-assoc now (f x) (g (drop (i + 1) xs))
+    ∙ ap (join now) (sym (h x (drop (i + 1) xs))) ∙ ap (λ y. join now (g y)) (sym (next-one xs i (i + 1) x refl l e)) ∙ r
+
+pub rest-ends : {X : Type 0} (g : List X → Weight) → g [] ≡ nothing → (all now : Weight) (xs : List X) (i : ℕ) → join now (g (drop i xs)) ≡ all → length xs ≤ i → now ≡ all
+rest-ends g h all now xs i r l = sym (joined-nothing now) ∙ ap (join now) (sym (ap g (all-past xs i l) ∙ h)) ∙ r
 
 -- ---- operators, one after another
 
 operated : (g : List Weight → Weight) (stack ws : List Weight) (n : ℕ) → length ws ≡ n
     → take (length (stack ++ ws) - n) (stack ++ ws) ++ g (drop (length (stack ++ ws) - n) (stack ++ ws)) ∷ [] ≡ stack ++ g ws ∷ []
-operated g stack ws n e =
-    let h : length stack ≡ length (stack ++ ws) - n = let a = length-append stack ws in omega (arith, a, e) in
-    (λ i. take_at stack ws (length (stack ++ ws) - n) h i ++ g (drop_at stack ws (length (stack ++ ws) - n) h i) ∷ [])
+operated g stack ws n e = grind (arith, common_steps)
 
 module _ (c : Names) (d : ℕ) (k : Known) where
-  pub length-each : (ts : Terms) → length (weights_of c d k ts) ≡ count ts
+  pub length-each : (ts : Terms) → length (weights_of c d k [] ts) ≡ count ts
   length-each none = refl
   length-each (part t ts) = ap suc (length-each ts)
 
+  -- an operator comes behind its operands
+  operator : (f : Shape) (ts : Terms) (p : Place) (stack : List Weight) → fold (turned c d k) stack (orders ts) ≡ stack ++ weights_of c d k [] ts
+      → ((l : List Weight) → turned c d k l (term f ts p) ≡ take (length l - count ts) l ++ form_weight f p (total (drop (length l - count ts) l)) ∷ [])
+      → fold (turned c d k) stack (orders ts ++ term f ts p ∷ []) ≡ stack ++ form_weight f p (total (weights_of c d k [] ts)) ∷ []
+  operator f ts p stack e h =
+      fold-append (turned c d k) stack (orders ts) (term f ts p ∷ []) ∙ ap (λ l. turned c d k l (term f ts p)) e ∙ h (stack ++ weights_of c d k [] ts)
+      ∙ operated (λ ws. form_weight f p (total ws)) stack (weights_of c d k [] ts) (count ts) (length-each ts)
+
   mutual
     pub in-order : (t : Term) (stack : List Weight) → fold (turned c d k) stack (order t) ≡ stack ++ weight_of c d k t ∷ []
-    in-order (term (s.prefixed o) ts p) stack =
-        fold-append (turned c d k) stack (orders ts) (term (s.prefixed o) ts p ∷ []) ∙ ap (λ l. turned c d k l (term (s.prefixed o) ts p)) (all-in-order ts stack)
-        ∙ operated (λ ws. form_weight (s.prefixed o) p (total ws)) stack (weights_of c d k ts) (count ts) (length-each ts)
-    in-order (term (s.infixed o) ts p) stack =
-        fold-append (turned c d k) stack (orders ts) (term (s.infixed o) ts p ∷ []) ∙ ap (λ l. turned c d k l (term (s.infixed o) ts p)) (all-in-order ts stack)
-        ∙ operated (λ ws. form_weight (s.infixed o) p (total ws)) stack (weights_of c d k ts) (count ts) (length-each ts)
-    in-order (term s.prime ts p) stack =
-        fold-append (turned c d k) stack (orders ts) (term s.prime ts p ∷ []) ∙ ap (λ l. turned c d k l (term s.prime ts p)) (all-in-order ts stack)
-        ∙ operated (λ ws. form_weight s.prime p (total ws)) stack (weights_of c d k ts) (count ts) (length-each ts)
-    in-order (term s.index ts p) stack =
-        fold-append (turned c d k) stack (orders ts) (term s.index ts p ∷ []) ∙ ap (λ l. turned c d k l (term s.index ts p)) (all-in-order ts stack)
-        ∙ operated (λ ws. form_weight s.index p (total ws)) stack (weights_of c d k ts) (count ts) (length-each ts)
-    in-order (term (s.field h) ts p) stack =
-        fold-append (turned c d k) stack (orders ts) (term (s.field h) ts p ∷ []) ∙ ap (λ l. turned c d k l (term (s.field h) ts p)) (all-in-order ts stack)
-        ∙ operated (λ ws. form_weight (s.field h) p (total ws)) stack (weights_of c d k ts) (count ts) (length-each ts)
+    in-order (term (s.prefixed o) ts p) stack = operator (s.prefixed o) ts p stack (all-in-order ts stack) (λ l. refl)
+    in-order (term (s.infixed o) ts p) stack = operator (s.infixed o) ts p stack (all-in-order ts stack) (λ l. refl)
+    in-order (term s.prime ts p) stack = operator s.prime ts p stack (all-in-order ts stack) (λ l. refl)
+    in-order (term s.index ts p) stack = operator s.index ts p stack (all-in-order ts stack) (λ l. refl)
+    in-order (term (s.field h) ts p) stack = operator (s.field h) ts p stack (all-in-order ts stack) (λ l. refl)
     in-order (term f ts p) stack = refl
 
-    pub all-in-order : (ts : Terms) (stack : List Weight) → fold (turned c d k) stack (orders ts) ≡ stack ++ weights_of c d k ts
+    pub all-in-order : (ts : Terms) (stack : List Weight) → fold (turned c d k) stack (orders ts) ≡ stack ++ weights_of c d k [] ts
     all-in-order none stack = sym (append-nil stack)
     all-in-order (part t ts) stack =
         fold-append (turned c d k) stack (order t) (orders ts) ∙ ap (λ l. fold (turned c d k) l (orders ts)) (in-order t stack)
-        ∙ all-in-order ts (stack ++ weight_of c d k t ∷ []) ∙ append_assoc stack (weight_of c d k t ∷ []) (weights_of c d k ts)
+        ∙ all-in-order ts (stack ++ weight_of c d k t ∷ []) ∙ append_assoc stack (weight_of c d k t ∷ []) (weights_of c d k [] ts)
 
   count-of : (ts : List Term) → count (terms_of ts) ≡ length ts
   count-of [] = refl
@@ -87,28 +99,22 @@ module _ (c : Names) (d : ℕ) (k : Known) where
   turns-except stack ks [] p g = refl
   turns-except stack ks (t ∷ ts) p g = refl
 
+  rolled : (stack : List Weight) (ts : List Term) (p : Place) (x : Unrolled) {h : Held} → held (roll-Form x) ≡ h → Turns stack ts p (λ ws. ruled x p (total ws)) (joined_by x) h
+      → Turns stack ts p (λ ws. ruled x p (total ws)) (joined_by x) (held (roll-Form x))
+  rolled stack ts p x e y = subst (Turns stack ts p (λ ws. ruled x p (total ws)) (joined_by x)) (sym e) y
+
+  counted : (stack : List Weight) (ts : List Term) (p : Place) (f : Shape) → Operated stack (count (terms_of ts)) (λ ws. form_weight f p (total ws)) ≡ Operated stack (length ts) (λ ws. form_weight f p (total ws))
+  counted stack ts p f = ap (λ n. Operated stack n (λ ws. form_weight f p (total ws))) (count-of ts)
+
   turns-rolled : (stack : List Weight) (ts : List Term) (p : Place) (x : Unrolled) → Turns stack ts p (λ ws. ruled x p (total ws)) (joined_by x) (held (roll-Form x))
   unfolding held
-  turns-rolled stack ts p (Form-F.Prefix o) =
-      let x : Unrolled = Form-F.Prefix o in
-      subst (Turns stack ts p (λ ws. ruled x p (total ws)) true) (sym (fold-roll-Form _ _ _ _ _ _ shape_of key_of def_of group_of node_of path_of x)) (ap (λ n. Operated stack n (λ ws. form_weight (s.prefixed o) p (total ws))) (count-of ts))
-  turns-rolled stack ts p (Form-F.Infix o) =
-      let x : Unrolled = Form-F.Infix o in
-      subst (Turns stack ts p (λ ws. ruled x p (total ws)) true) (sym (fold-roll-Form _ _ _ _ _ _ shape_of key_of def_of group_of node_of path_of x)) (ap (λ n. Operated stack n (λ ws. form_weight (s.infixed o) p (total ws))) (count-of ts))
-  turns-rolled stack ts p Form-F.Prime =
-      let x : Unrolled = Form-F.Prime in
-      subst (Turns stack ts p (λ ws. ruled x p (total ws)) true) (sym (fold-roll-Form _ _ _ _ _ _ shape_of key_of def_of group_of node_of path_of x)) (ap (λ n. Operated stack n (λ ws. form_weight s.prime p (total ws))) (count-of ts))
-  turns-rolled stack ts p Form-F.Index =
-      let x : Unrolled = Form-F.Index in
-      subst (Turns stack ts p (λ ws. ruled x p (total ws)) true) (sym (fold-roll-Form _ _ _ _ _ _ shape_of key_of def_of group_of node_of path_of x)) (ap (λ n. Operated stack n (λ ws. form_weight s.index p (total ws))) (count-of ts))
-  turns-rolled stack ts p (Form-F.Form::Field h) =
-      let x : Unrolled = Form-F.Form::Field h in
-      subst (Turns stack ts p (λ ws. ruled x p (total ws)) true) (sym (fold-roll-Form _ _ _ _ _ _ shape_of key_of def_of group_of node_of path_of x)) (ap (λ n. Operated stack n (λ ws. form_weight (s.field h) p (total ws))) (count-of ts))
-  turns-rolled stack ts p (Form-F.Except ps) =
-      let x : Unrolled = Form-F.Except ps in
-      subst (Turns stack ts p (λ ws. ruled x p (total ws)) false) (sym (fold-roll-Form _ _ _ _ _ _ shape_of key_of def_of group_of node_of path_of x)) (turns-except stack _ ts p (λ ws. ruled x p (total ws)))
-  turns-rolled stack ts p x =
-      subst (Turns stack ts p (λ ws. ruled x p (total ws)) false) (sym (fold-roll-Form _ _ _ _ _ _ shape_of key_of def_of group_of node_of path_of x)) refl
+  turns-rolled stack ts p (Form-F.Prefix o) = rolled stack ts p (Form-F.Prefix o) (fold-roll-Form _ _ _ _ _ _ shape_of key_of def_of group_of node_of path_of (Form-F.Prefix o)) (counted stack ts p (s.prefixed o))
+  turns-rolled stack ts p (Form-F.Infix o) = rolled stack ts p (Form-F.Infix o) (fold-roll-Form _ _ _ _ _ _ shape_of key_of def_of group_of node_of path_of (Form-F.Infix o)) (counted stack ts p (s.infixed o))
+  turns-rolled stack ts p Form-F.Prime = rolled stack ts p Form-F.Prime (fold-roll-Form _ _ _ _ _ _ shape_of key_of def_of group_of node_of path_of Form-F.Prime) (counted stack ts p s.prime)
+  turns-rolled stack ts p Form-F.Index = rolled stack ts p Form-F.Index (fold-roll-Form _ _ _ _ _ _ shape_of key_of def_of group_of node_of path_of Form-F.Index) (counted stack ts p s.index)
+  turns-rolled stack ts p (Form-F.Form::Field h) = rolled stack ts p (Form-F.Form::Field h) (fold-roll-Form _ _ _ _ _ _ shape_of key_of def_of group_of node_of path_of (Form-F.Form::Field h)) (counted stack ts p (s.field h))
+  turns-rolled stack ts p (Form-F.Except ps) = rolled stack ts p (Form-F.Except ps) (fold-roll-Form _ _ _ _ _ _ shape_of key_of def_of group_of node_of path_of (Form-F.Except ps)) (turns-except stack _ ts p total)
+  turns-rolled stack ts p x = rolled stack ts p x (fold-roll-Form _ _ _ _ _ _ shape_of key_of def_of group_of node_of path_of x) refl
 
   turns-node : (n : Node) (stack : List Weight)
       → turned c d k stack (term_of n)
@@ -121,18 +127,13 @@ module _ (c : Names) (d : ℕ) (k : Known) where
       let o : Turns stack ts p g (joins f) (held f) = subst (λ h. Turns stack ts p g (joins f) (held h)) (roll-out-Form f) (turns-rolled stack ts p (out-Form f)) in
       subst (λ t. turned c d k stack t ≡ (if joins f then Operated stack (length ts) g else stack ++ weight_of c d k t ∷ [])) (sym (by-form n (held f) refl)) o
 
-  mapped : (ns : List Node) → length (map term_of ns) ≡ length ns
-  mapped [] = refl
-  mapped (n ∷ ns) = ap suc (mapped ns)
-
   -- an operator over the weights that stand last on a stack
-  pub turns-operator : (n : Node) (stack left next : List Weight) (m : ℕ) (x : Weight) → joins (out-Node n).form ≡ true → m ≡ length (out-Node n).parts
-      → left ≡ take (length stack - m) stack → x ≡ by_form (out-Node n).form (out-Node n).place (total (drop (length stack - m) stack)) → next ≡ left ++ x ∷ []
-      → next ≡ turned c d k stack (term_of n)
-  turns-operator n stack left next m x j e l w a =
+  pub turns-operator : (n : Node) (stack left next : List Weight) (x : Weight) → joins (out-Node n).form ≡ true → left ≡ take (length stack - length (out-Node n).parts) stack
+      → x ≡ by_form (out-Node n).form (out-Node n).place (total (drop (length stack - length (out-Node n).parts) stack)) → next ≡ left ++ x ∷ [] → next ≡ turned c d k stack (term_of n)
+  turns-operator n stack left next x j l w a =
       let g : List Weight → Weight = λ ws. by_form (out-Node n).form (out-Node n).place (total ws) in
       a ∙ (λ i. l i ++ w i ∷ [])
-      ∙ ap (λ q. Operated stack q g) (e ∙ sym (mapped (out-Node n).parts))
+      ∙ ap (λ q. Operated stack q g) (sym (length-map (out-Node n).parts term_of))
       ∙ ap (λ b. if b then Operated stack (length (map term_of (out-Node n).parts)) g else stack ++ weight_of c d k (term_of n) ∷ []) (sym j)
       ∙ sym (turns-node n stack)
 
@@ -146,59 +147,26 @@ module _ (c : Names) (d : ℕ) (k : Known) where
 
   -- ---- other forms
 
-  parts-weights : Node → List Weight
-  parts-weights n = weights_of c d k (parts_in n)
+  pub weighs-name : (n : Node) → ((w : Text) × ((out-Node n).form ≡ form.Name w)) ⊎ ((w : Text) × ((out-Node n).form ≡ form.Call w)) → weight_of c d k (term_of n) ≡ applied c d k (out-Node n).place (parts_in n)
+  weighs-name n (inl e) = ap (weight_of c d k) (is-name n e.0 e.1)
+  weighs-name n (inr e) = ap (weight_of c d k) (is-call n e.0 e.1)
 
-  pub weighs-name : (n : Node) (w : Text) → (out-Node n).form ≡ form.Name w → weight_of c d k (term_of n) ≡ at_name (out-Node n).place (at c (out-Node n).place) (weights_of c d k (parts_in n))
-  weighs-name n w e = ap (weight_of c d k) (is-name n w e)
-
-  pub weighs-call : (n : Node) (w : Text) → (out-Node n).form ≡ form.Call w → weight_of c d k (term_of n) ≡ at_name (out-Node n).place (at c (out-Node n).place) (weights_of c d k (parts_in n))
-  weighs-call n w e = ap (weight_of c d k) (is-call n w e)
-
-  acts-box : (ts : Terms) (p : Place) → weight_of c d k (term s.box ts p) ≡ acted c d k p ts
-  acts-box none p = refl
-  acts-box (part t ts) p = refl
-
-  acts-angle : (ts : Terms) (p : Place) → weight_of c d k (term s.angle ts p) ≡ acted c d k p ts
-  acts-angle none p = refl
-  acts-angle (part t ts) p = refl
-
-  pub weighs-box : (n : Node) → (out-Node n).form ≡ form.BoxAct → weight_of c d k (term_of n) ≡ acted c d k (out-Node n).place (parts_in n)
-  weighs-box n e = ap (weight_of c d k) (is-box n e) ∙ acts-box (parts_in n) (out-Node n).place
-
-  pub weighs-angle : (n : Node) → (out-Node n).form ≡ form.AngleAct → weight_of c d k (term_of n) ≡ acted c d k (out-Node n).place (parts_in n)
-  weighs-angle n e = ap (weight_of c d k) (is-angle n e) ∙ acts-angle (parts_in n) (out-Node n).place
-
-  pub weighs-at : (n : Node) → (out-Node n).form ≡ form.At → weight_of c d k (term_of n) ≡ at_name (out-Node n).place k []
-  weighs-at n e = ap (weight_of c d k) (is-at n e)
-
-  pub weighs-quant : (n : Node) (all : Bool) (gs : List Group) → (out-Node n).form ≡ form.Quant all gs
-      → weight_of c d k (term_of n) ≡ join (sets_of c d k (each_group gs)) (total (weights_of c d k (parts_in n)))
-  weighs-quant n all gs e = ap (weight_of c d k) (is-quantifier n all gs e)
+  pub weighs-action : (n : Node) → ((out-Node n).form ≡ form.BoxAct) ⊎ ((out-Node n).form ≡ form.AngleAct) → weight_of c d k (term_of n) ≡ acted (out-Node n).place (weights_of c d k [] (parts_in n))
+  weighs-action n (inl e) = ap (weight_of c d k) (is-box n e)
+  weighs-action n (inr e) = ap (weight_of c d k) (is-angle n e)
 
   sets-made : (ns : List Decl) (o : Option Node) (rest : Groups) → sets_of c d k (with_domain ns (set_of o) rest) ≡ join (domain_weight c d k o) (sets_of c d k rest)
   sets-made ns None rest = sym (nothing-joined (sets_of c d k rest))
   sets-made ns (Some n) rest = refl
 
-  sets-group : (g : Group) (rest : Groups) → sets_of c d k (groups_of g rest) ≡ join (domain_weight c d k (out-Group g).domain) (sets_of c d k rest)
+  pub sets-group : (g : Group) (rest : Groups) → sets_of c d k (groups_of g rest) ≡ join (domain_weight c d k (out-Group g).domain) (sets_of c d k rest)
   sets-group g rest = ap (λ (f : Groups → Groups). sets_of c d k (f rest)) (is-group g) ∙ sets-made (out-Group g).names (out-Group g).domain rest
 
   pub weighs-choose : (n : Node) (g : Group) → (out-Node n).form ≡ form.Choose g
-      → weight_of c d k (term_of n) ≡ join (domain_weight c d k (out-Group g).domain) (total (weights_of c d k (parts_in n)))
+      → weight_of c d k (term_of n) ≡ join (domain_weight c d k (out-Group g).domain) (total (weights_of c d k [] (parts_in n)))
   weighs-choose n g e =
       ap (weight_of c d k) (is-choice n g e)
-      ∙ ap (λ x. join x (total (weights_of c d k (parts_in n)))) (sets-group g Groups.end_groups ∙ joined-nothing (domain_weight c d k (out-Group g).domain))
-
-  pub sets-starts : (gs : List Group) → join nothing (sets_of c d k (each_group gs)) ≡ sets_of c d k (each_group gs)
-  sets-starts gs = nothing-joined (sets_of c d k (each_group gs))
-
-  pub sets-next : (all now next x : Weight) (gs rest : List Group) (g : Group) → join now (sets_of c d k (each_group gs)) ≡ all → gs ≡ g ∷ rest
-      → x ≡ domain_weight c d k (out-Group g).domain → next ≡ join now x → join next (sets_of c d k (each_group rest)) ≡ all
-  sets-next all now next x gs rest g h e w a =
-      ap (λ y. join y (sets_of c d k (each_group rest))) (a ∙ ap (join now) w)
-      ∙ join-assoc now (domain_weight c d k (out-Group g).domain) (sets_of c d k (each_group rest))
-      ∙ ap (join now) (sym (sets-group g (each_group rest)))
-      ∙ ap (λ l. join now (sets_of c d k (each_group l))) (sym e) ∙ h
+      ∙ ap (λ x. join x (total (weights_of c d k [] (parts_in n)))) (sets-group g Groups.end_groups ∙ joined-nothing (domain_weight c d k (out-Group g).domain))
 
   keys-rolled : (x : Key-F Form Key Def Group Node Path) (rest : Keys) → keys_on c d k (key_keys (roll-Key x) rest) ≡ join (keys_on c d k (key_keys (roll-Key x) Keys.end_keys)) (keys_on c d k rest)
   keys-rolled (Key-F.Key::At n) rest =
@@ -211,7 +179,7 @@ module _ (c : Names) (d : ℕ) (k : Known) where
       ∙ sym (nothing-joined (keys_on c d k rest))
       ∙ ap (λ x. join x (keys_on c d k rest)) (sym (ap (λ (f : Keys → Keys). keys_on c d k (f Keys.end_keys)) e))
 
-  keys-split : (y : Key) (rest : Keys) → keys_on c d k (key_keys y rest) ≡ join (keys_on c d k (key_keys y Keys.end_keys)) (keys_on c d k rest)
+  pub keys-split : (y : Key) (rest : Keys) → keys_on c d k (key_keys y rest) ≡ join (keys_on c d k (key_keys y Keys.end_keys)) (keys_on c d k rest)
   keys-split y rest = subst (λ z. keys_on c d k (key_keys z rest) ≡ join (keys_on c d k (key_keys z Keys.end_keys)) (keys_on c d k rest)) (roll-out-Key y) (keys-rolled (out-Key y) rest)
 
   pub weighs-key : (y : Key) (n : Node) → y ≡ key.At n → keys_on c d k (each_key (y ∷ [])) ≡ weight_of c d k (term_of n)
@@ -220,25 +188,24 @@ module _ (c : Names) (d : ℕ) (k : Known) where
   pub weighs-field-key : (y : Key) (h : Text) → y ≡ key.Field h → keys_on c d k (each_key (y ∷ [])) ≡ nothing
   weighs-field-key y h e = ap (λ z. keys_on c d k (each_key (z ∷ []))) e ∙ ap (λ (f : Keys → Keys). keys_on c d k (f Keys.end_keys)) (is-field-key h)
 
-  pub keys-starts : (ks : List Key) → join nothing (keys_on c d k (each_key ks)) ≡ keys_on c d k (each_key ks)
-  keys-starts ks = nothing-joined (keys_on c d k (each_key ks))
-
-  pub keys-next : (all now next x : Weight) (ks rest : List Key) (y : Key) → join now (keys_on c d k (each_key ks)) ≡ all → ks ≡ y ∷ rest
-      → x ≡ keys_on c d k (each_key (y ∷ [])) → next ≡ join now x → join next (keys_on c d k (each_key rest)) ≡ all
-  keys-next all now next x ks rest y h e w a =
-      ap (λ z. join z (keys_on c d k (each_key rest))) (a ∙ ap (join now) w)
-      ∙ join-assoc now (keys_on c d k (each_key (y ∷ []))) (keys_on c d k (each_key rest))
-      ∙ ap (join now) (sym (keys-split y (each_key rest)))
-      ∙ ap (λ l. join now (keys_on c d k (each_key l))) (sym e) ∙ h
-
   -- ---- several expressions
 
-  pub each-next : (all : List Weight) (now next : List Weight) (x : Weight) (ns rest : List Node) (n : Node) → now ++ weights_of c d k (terms_of (map term_of ns)) ≡ all → ns ≡ n ∷ rest
-      → x ≡ weight_of c d k (term_of n) → next ≡ now ++ x ∷ [] → next ++ weights_of c d k (terms_of (map term_of rest)) ≡ all
-  each-next all now next x ns rest n h e w a =
-      ap (λ l. l ++ weights_of c d k (terms_of (map term_of rest))) (a ∙ ap (λ y. now ++ y ∷ []) w)
-      ∙ append_assoc now (weight_of c d k (term_of n) ∷ []) (weights_of c d k (terms_of (map term_of rest)))
-      ∙ ap (λ l. now ++ weights_of c d k (terms_of (map term_of l))) (sym e) ∙ h
+  flagged : (fs : List Bool) (i : ℕ) (t : Term) (ts : Terms) → weights_of c d k (drop i fs) (part t ts) ≡ primed_if (get_or fs i false) (weight_of c d k t) ∷ weights_of c d k (drop (suc i) fs) ts
+  flagged [] zero t ts = refl
+  flagged [] (suc i) t ts = refl
+  flagged (f ∷ fs) zero t ts = refl
+  flagged (f ∷ fs) (suc i) t ts = flagged fs i t ts
+
+  pub each-next : (all now next : List Weight) (x : Weight) (fs : List Bool) (ns : List Node) (i : ℕ) (n : Node) → now ++ weights_of c d k (drop i fs) (terms_of (map term_of (drop i ns))) ≡ all
+      → i < length ns → n ≡ get_or ns i n → x ≡ primed_if (get_or fs i false) (weight_of c d k (term_of n)) → next ≡ now ++ x ∷ []
+      → next ++ weights_of c d k (drop (i + 1) fs) (terms_of (map term_of (drop (i + 1) ns))) ≡ all
+  each-next all now next x fs ns i n h l e w a =
+      let rest = terms_of (map term_of (drop (i + 1) ns)) in
+      ap (λ l. l ++ weights_of c d k (drop (i + 1) fs) rest) (a ∙ ap (λ y. now ++ y ∷ []) w)
+      ∙ append_assoc now (primed_if (get_or fs i false) (weight_of c d k (term_of n)) ∷ []) (weights_of c d k (drop (i + 1) fs) rest)
+      ∙ ap (λ m. now ++ primed_if (get_or fs i false) (weight_of c d k (term_of n)) ∷ weights_of c d k (drop m fs) rest) (add-one i)
+      ∙ ap (λ l. now ++ l) (sym (flagged fs i (term_of n) rest))
+      ∙ ap (λ l. now ++ weights_of c d k (drop i fs) (terms_of (map term_of l))) (sym (next-one ns i (i + 1) n refl l e)) ∙ h
 
   -- ---- updates
 
@@ -263,67 +230,46 @@ module _ (c : Names) (d : ℕ) (k : Known) where
       (λ i. updates_on c d k (q i) ns (w i)) ∙ ap (excepted c d k ps) (sym a) ∙ sym (weighs-except n ps e)
 
   pub except-empty : (n : Node) (ps : List Path) (x : Weight) → (out-Node n).form ≡ form.Except ps → length (out-Node n).parts ≡ 0 → x ≡ nothing → x ≡ weight_of c d k (term_of n)
-  except-empty n ps x e l a = a ∙ sym (ap (excepted c d k ps) (empty (out-Node n).parts l)) ∙ sym (weighs-except n ps e)
-    where
-      empty : (ns : List Node) → length ns ≡ 0 → ns ≡ []
-      empty [] l = refl
-      empty (n ∷ ns) l = absurd (omega (arith, l))
+  except-empty n ps x e l a = a ∙ sym (ap (excepted c d k ps) (nil_from_length (out-Node n).parts l)) ∙ sym (weighs-except n ps e)
 
-  pub turn-next : (all : List Weight) (stack next : List Weight) (xs : List (Bor Node)) (i : ℕ) (x : Bor Node) (s : Names) → fold (turned c d k) stack (map (λ n. term_of n.now) (drop i xs)) ≡ all
-      → i < length xs → x ≡ get_or xs i x → s ≡ c → next ≡ turned s d k stack (term_of x.now) → fold (turned c d k) next (map (λ n. term_of n.now) (drop (i + 1) xs)) ≡ all
-  turn-next all stack next xs i x s h l e q a =
-      let n = drop-cons xs i x l ∙ (λ m. sym e m ∷ drop (sym (add-one i) m) xs) in
-      ap (λ z. fold (turned c d k) z (map (λ n. term_of n.now) (drop (i + 1) xs))) (a ∙ ap (λ z. turned z d k stack (term_of x.now)) q)
+  pub turn-next : (all : List Weight) (stack next : List Weight) (xs : List (Bor Node)) (i : ℕ) (x : Bor Node) → fold (turned c d k) stack (map (λ n. term_of n.now) (drop i xs)) ≡ all
+      → i < length xs → x ≡ get_or xs i x → next ≡ turned c d k stack (term_of x.now) → fold (turned c d k) next (map (λ n. term_of n.now) (drop (i + 1) xs)) ≡ all
+  turn-next all stack next xs i x h l e a =
+      let n = next-one xs i (i + 1) x refl l e in
+      ap (λ z. fold (turned c d k) z (map (λ n. term_of n.now) (drop (i + 1) xs))) a
       ∙ ap (λ z. fold (turned c d k) stack (map (λ n. term_of n.now) z)) (sym n) ∙ h
-
-  pub no-more-paths : (ns : List Node) (x : Weight) → updates_on c d k [] ns x ≡ x
-  no-more-paths ns x = refl
 
   pub no-more-values : (ps : List Path) (x : Weight) → updates_on c d k ps [] x ≡ x
   no-more-values [] x = refl
   no-more-values (p ∷ ps) x = refl
 
-  -- ---- definitions
-
-  pub weighs-let : (n : Node) (ds : List Def) → (out-Node n).form ≡ form.Let ds
-      → weight_of c d k (term_of n) ≡ join (bodies_of c d k (each_def ds)) (total (weights_of (with_definitions d k (each_def ds) c) d k (parts_in n)))
-  weighs-let n ds e =
-      ap (weight_of c d k) (is-local n ds e)
-      ∙ ap (λ ws. join (bodies_of c d k (each_def ds)) (total ws))
-      (sym (λ i. weigh_each (symbol_at (same-with-definitions d k (each_def ds) c i)) d (env-with-definitions d k (each_def ds) c i) k (parts_in n)))
-
   -- ---- all other forms
 
-  plain : (f : Form) (ts : List Term) (p : Place) → ((w : Text) → f ≡ form.Name w → ⊥) → ((w : Text) → f ≡ form.Call w → ⊥) → (f ≡ form.BoxAct → ⊥) → (f ≡ form.AngleAct → ⊥)
-      → (f ≡ form.At → ⊥) → ((ps : List Path) → f ≡ form.Except ps → ⊥) → ((a : Bool) (gs : List Group) → f ≡ form.Quant a gs → ⊥) → ((g : Group) → f ≡ form.Choose g → ⊥)
-      → ((ds : List Def) → f ≡ form.Let ds → ⊥) → weight_of c d k (held f ts p) ≡ by_form f p (total (weights_of c d k (terms_of ts)))
+  abbrev pub IsPlain : Form → Type 0
+  IsPlain f = ((w : Text) → f ≡ form.Name w → ⊥) × ((w : Text) → f ≡ form.Call w → ⊥) × (f ≡ form.BoxAct → ⊥) × (f ≡ form.AngleAct → ⊥) × (f ≡ form.At → ⊥) × ((ps : List Path) → f ≡ form.Except ps → ⊥)
+      × ((a : Bool) (gs : List Group) → f ≡ form.Quant a gs → ⊥) × ((g : Group) → f ≡ form.Choose g → ⊥) × ((ds : List Def) → f ≡ form.Let ds → ⊥)
+
+  plain : (f : Form) (ts : List Term) (p : Place) → IsPlain f → weight_of c d k (held f ts p) ≡ by_form f p (total (weights_of c d k [] (terms_of ts)))
   unfolding held
-  plain f ts p hn hc hb ha ht he hq hg hl =
-      (elim (out-Form f) as (λ x. out-Form f ≡ x → weight_of c d k (held f ts p) ≡ by_form f p (total (weights_of c d k (terms_of ts)))) [
-        | Form-F.Name w ↦ λ e. absurd (hn w (sym (roll-out-Form f) ∙ ap roll-Form e ∙ rolls-Name w))
-        | Form-F.Call w ↦ λ e. absurd (hc w (sym (roll-out-Form f) ∙ ap roll-Form e ∙ rolls-Call w))
-        | Form-F.BoxAct ↦ λ e. absurd (hb (sym (roll-out-Form f) ∙ ap roll-Form e ∙ rolls-BoxAct))
-        | Form-F.AngleAct ↦ λ e. absurd (ha (sym (roll-out-Form f) ∙ ap roll-Form e ∙ rolls-AngleAct))
-        | Form-F.Form::At ↦ λ e. absurd (ht (sym (roll-out-Form f) ∙ ap roll-Form e ∙ rolls-At))
-        | Form-F.Except ps ↦ λ e. absurd (he ps (sym (roll-out-Form f) ∙ ap roll-Form e ∙ rolls-Except ps))
-        | Form-F.Quant a gs ↦ λ e. absurd (hq a gs (sym (roll-out-Form f) ∙ ap roll-Form e ∙ rolls-Quant a gs))
-        | Form-F.Choose g ↦ λ e. absurd (hg g (sym (roll-out-Form f) ∙ ap roll-Form e ∙ rolls-Choose g))
-        | Form-F.Let ds ↦ λ e. absurd (hl ds (sym (roll-out-Form f) ∙ ap roll-Form e ∙ rolls-Let ds))
+  plain f ts p h =
+      (elim (out-Form f) as (λ x. out-Form f ≡ x → weight_of c d k (held f ts p) ≡ by_form f p (total (weights_of c d k [] (terms_of ts)))) [
+        | Form-F.Name w ↦ λ e. absurd (h.0 w (sym (roll-out-Form f) ∙ ap roll-Form e ∙ rolls-Name w))
+        | Form-F.Call w ↦ λ e. absurd (h.1 w (sym (roll-out-Form f) ∙ ap roll-Form e ∙ rolls-Call w))
+        | Form-F.BoxAct ↦ λ e. absurd (h.2 (sym (roll-out-Form f) ∙ ap roll-Form e ∙ rolls-BoxAct))
+        | Form-F.AngleAct ↦ λ e. absurd (h.3 (sym (roll-out-Form f) ∙ ap roll-Form e ∙ rolls-AngleAct))
+        | Form-F.Form::At ↦ λ e. absurd (h.4 (sym (roll-out-Form f) ∙ ap roll-Form e ∙ rolls-At))
+        | Form-F.Except ps ↦ λ e. absurd (h.5 ps (sym (roll-out-Form f) ∙ ap roll-Form e ∙ rolls-Except ps))
+        | Form-F.Quant a gs ↦ λ e. absurd (h.6 a gs (sym (roll-out-Form f) ∙ ap roll-Form e ∙ rolls-Quant a gs))
+        | Form-F.Choose g ↦ λ e. absurd (h.7 g (sym (roll-out-Form f) ∙ ap roll-Form e ∙ rolls-Choose g))
+        | Form-F.Let ds ↦ λ e. absurd (h.8 ds (sym (roll-out-Form f) ∙ ap roll-Form e ∙ rolls-Let ds))
         | _ ↦ λ e. ap (λ (h : Held). weight_of c d k (h ts p)) (ap held (sym (roll-out-Form f)) ∙ ap (λ x. held (roll-Form x)) e ∙ fold-roll-Form _ _ _ _ _ _ shape_of key_of def_of group_of node_of path_of _)
-            ∙ ap (λ x. ruled x p (total (weights_of c d k (terms_of ts)))) (sym e)
+            ∙ ap (λ x. ruled x p (total (weights_of c d k [] (terms_of ts)))) (sym e)
       ]) refl
 
-  pub weighs-plain : (n : Node) → ((w : Text) → (out-Node n).form ≡ form.Name w → ⊥) → ((w : Text) → (out-Node n).form ≡ form.Call w → ⊥) → ((out-Node n).form ≡ form.BoxAct → ⊥)
-      → ((out-Node n).form ≡ form.AngleAct → ⊥) → ((out-Node n).form ≡ form.At → ⊥) → ((ps : List Path) → (out-Node n).form ≡ form.Except ps → ⊥)
-      → ((a : Bool) (gs : List Group) → (out-Node n).form ≡ form.Quant a gs → ⊥) → ((g : Group) → (out-Node n).form ≡ form.Choose g → ⊥) → ((ds : List Def) → (out-Node n).form ≡ form.Let ds → ⊥)
-      → weight_of c d k (term_of n) ≡ by_form (out-Node n).form (out-Node n).place (total (weights_of c d k (parts_in n)))
-  weighs-plain n hn hc hb ha ht he hq hg hl =
-      ap (weight_of c d k) (by-form n (held (out-Node n).form) refl) ∙ plain (out-Node n).form (map term_of (out-Node n).parts) (out-Node n).place hn hc hb ha ht he hq hg hl
+  pub weighs-plain : (n : Node) → IsPlain (out-Node n).form → weight_of c d k (term_of n) ≡ by_form (out-Node n).form (out-Node n).place (total (weights_of c d k [] (parts_in n)))
+  weighs-plain n h = ap (weight_of c d k) (by-form n (held (out-Node n).form) refl) ∙ plain (out-Node n).form (map term_of (out-Node n).parts) (out-Node n).place h
 
 -- ---- one definition after another
-
-pub bodies-start : (s : Names) (d : ℕ) (k : Known) (ds : List Def) → join nothing (bodies_of s d k (each_def ds)) ≡ bodies_of s d k (each_def ds)
-bodies-start s d k ds = nothing-joined (bodies_of s d k (each_def ds))
 
 pub bodies-step : (d : ℕ) (k : Known) (all now next x : Weight) (s t : Names) (ds rest : List Def) (y : Def) → join now (bodies_of s d k (each_def ds)) ≡ all → ds ≡ y ∷ rest
     → t ≡ with_definition d k (out-Def y).params (term_of (out-Def y).body) (out-Def y).place s → x ≡ asked_round d (body_weight s d k (out-Def y).params (term_of (out-Def y).body))
@@ -334,15 +280,15 @@ bodies-step d k all now next x s t ds rest y h e f w a =
     ap (λ z. join z (bodies_of t d k (each_def rest))) (a ∙ ap (join now) w)
     ∙ ap (λ z. join (join now b) (bodies_of z d k (each_def rest))) f
     ∙ join-assoc now b (bodies_of u d k (each_def rest))
-    ∙ ap (join now) (sym (ap (λ (g : Defs → Defs). bodies_of s d k (g (each_def rest))) (is-def y) ∙ bodies-next d k (out-Def y).name (out-Def y).params (term_of (out-Def y).body) (out-Def y).place (each_def rest) s))
+    ∙ ap (join now) (sym (ap (λ (g : Defs → Defs). bodies_of s d k (g (each_def rest))) (is-def y)))
     ∙ ap (λ l. join now (bodies_of s d k (each_def l))) (sym e) ∙ h
 
-pub known-step : (d : ℕ) (k : Known) (all s t : Names) (ds rest : List Def) (y : Def) → with_definitions d k (each_def ds) s ≡ all → ds ≡ y ∷ rest
-    → t ≡ with_definition d k (out-Def y).params (term_of (out-Def y).body) (out-Def y).place s → with_definitions d k (each_def rest) t ≡ all
+pub known-step : (d : ℕ) (k : Known) (all s t : Names) (ds rest : List Def) (y : Def) → with_all d k (each_def ds) s ≡ all → ds ≡ y ∷ rest
+    → t ≡ with_definition d k (out-Def y).params (term_of (out-Def y).body) (out-Def y).place s → with_all d k (each_def rest) t ≡ all
 known-step d k all s t ds rest y h e f =
-    ap (with_definitions d k (each_def rest)) f
-    ∙ sym (ap (λ (g : Defs → Defs). with_definitions d k (g (each_def rest)) s) (is-def y))
-    ∙ ap (λ l. with_definitions d k (each_def l) s) (sym e) ∙ h
+    ap (with_all d k (each_def rest)) f
+    ∙ sym (ap (λ (g : Defs → Defs). with_all d k (g (each_def rest)) s) (is-def y))
+    ∙ ap (λ l. with_all d k (each_def l) s) (sym e) ∙ h
 
 -- ---- results and lists
 
@@ -353,15 +299,5 @@ pub in-any-case : {A P : Type 0} (r : Result A Memory) → P → OnOk r P
 in-any-case (Ok a) p = p
 in-any-case (Err e) p = tt
 
-pub next-one : {X : Type 0} (xs : List X) (i j : ℕ) (x : X) → j ≡ i + 1 → i < length xs → x ≡ get_or xs i x → drop i xs ≡ x ∷ drop j xs
-next-one xs i j x e h a = drop-cons xs i x h ∙ (λ m. sym a m ∷ drop ((sym (add-one i) ∙ sym e) m) xs)
-
-pub all-past : {X : Type 0} (xs : List X) (i : ℕ) → length xs ≤ i → drop i xs ≡ []
-all-past [] zero h = refl
-all-past [] (suc i) h = refl
-all-past (x ∷ xs) zero h = absurd (omega (arith, h))
-all-past (x ∷ xs) (suc i) h = all-past xs i (omega (arith, h))
-
 pub last-one : {X : Type 0} (xs : List X) (x w : X) → xs ++ x ∷ [] ≡ w ∷ [] → x ≡ w
-last-one [] x w e = ap (λ l. get_or l 0 x) e
-last-one (y ∷ xs) x w e = absurd (let h = ap length e in let g = length-append xs (x ∷ []) in omega (arith, h, g))
+last-one xs x w e = grind (arith, common_steps)

@@ -1,6 +1,6 @@
 -- Levels: 0 constant, 1 state, 2 action, 3 temporal. An expression has the greatest level of its parts, but where an operator says
 -- otherwise; a defined name has the level of its body under the levels of its arguments.
-use Rattle.std.specs.Prelude.{ℕ, zero, suc, Bool, true, false, ◌||◌, nat_eq, nat_lt, if◌then◌else◌, List, [], ◌∷◌, ◌++◌, Option, Some, None, codes}
+use Rattle.std.specs.Prelude.{ℕ, Bool, true, false, ◌||◌, nat_eq, nat_lt, if◌then◌else◌, List, [], ◌∷◌, ◌++◌, Option, Some, None, codes}
 use Rattle.std.specs.Cmp.Lexicographic.{pointwise}
 use Rattle.tla_ast.specs.declared.place.Place.{Place}
 use Rattle.tla_ast.specs.declared.tree.Decl.{Decl}
@@ -101,8 +101,7 @@ limited limit p j = (j.0, j.1 ++ fault_if (nat_lt limit j.0) p)
 
 -- the level of a primed expression
 abbrev pub raised : ℕ → ℕ
-raised zero = 0
-raised (suc l) = 2
+raised l = if nat_lt 0 l then 2 else 0
 
 abbrev pub primed_level : Place → Judged → Judged
 primed_level p j = (raised j.0, (limited 1 p j).1)

@@ -2,5 +2,4 @@ pub mod Levels
 pub mod Primed
 pub mod Weights
 pub mod Store
-pub mod Occurrence
 pub mod Scope

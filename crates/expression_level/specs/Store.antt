@@ -1,5 +1,5 @@
 -- What the code keeps of names, as levels and weights speak of it.
-use Rattle.std.specs.Prelude.{◌≡◌, ℕ, Bool, List, [], ◌∷◌, Option, Some, None, get_or}
+use Rattle.std.specs.Prelude.{◌≡◌, ℕ, Bool, List, [], Option, Some, None, get_or}
 use Rattle.std.specs.Borrow.{Bor}
 use Rattle.symbol_table.specs.declared.entry.Entry.{Entry}
 use Rattle.symbol_table.specs.Scoped.{entry_of}
@@ -7,7 +7,7 @@ use Rattle.expression_level.specs.declared.weight.Use.{Use}
 use Rattle.expression_level.specs.declared.weight.Change.{Change}
 use Rattle.expression_level.specs.declared.weight.Change.TheVariants as change
 use Rattle.expression_level.specs.Levels.{Levels}
-use Rattle.expression_level.specs.Weights.{Known, depth_of, function_of, kept, capped_use, raised_use, unlimited}
+use Rattle.expression_level.specs.Weights.{Known, depth_of, function_of, kept, capped_use, raised_use, unlimited, primed_use, named, passed}
 use Rattle.expression_level.specs.Weights.Known.{arguments, defined}
 use Rattle.expression_level.specs.declared.known.Definition.{Definition}
 
@@ -17,6 +17,9 @@ changed change.Kept u = kept u
 changed (change.Capped k) u = capped_use k u
 changed change.Raised u = raised_use u
 changed change.Unlimited u = unlimited u
+changed change.Primed u = primed_use u
+changed change.Named u = named u
+changed (change.Passed v) u = passed v u
 
 abbrev pub known_of : Option Definition → Known
 known_of None = arguments
@@ -28,8 +31,7 @@ levels_of ks n = function_of [] (get_or ks n arguments)
 
 -- no parameters are bound round what is kept
 abbrev pub AllClosed : List Known → Type 0
-AllClosed [] = Unit {0}
-AllClosed (k ∷ ks) = (depth_of k ≡ 0) × AllClosed ks
+AllClosed ks = (n : ℕ) → depth_of (get_or ks n arguments) ≡ 0
 
 -- which parameters the entry of a number primes
 abbrev pub flags_of : List Entry → Option ℕ → List Bool

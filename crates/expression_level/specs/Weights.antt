@@ -1,19 +1,12 @@
 -- Levels in one pass: how the level of an expression, and what it asks for, depend on the levels of the parameters round it.
 -- A parameter is known by its position among those that are bound, the outermost first. A use says how one counts: as it is, raised
--- as by a prime, and the greatest level that is lawful for it.
-use Rattle.std.specs.Prelude.{ℕ, zero, suc, ◌+◌, Bool, true, false, ◌||◌, ◌&&◌, nat_lt, if◌then◌else◌, List, [], ◌∷◌, ◌++◌, map, take, drop, length, Option, Some, None, codes}
+-- as by a prime, and the greatest level that is lawful for it; and whether it stands in the expression, and is primed there.
+use Rattle.std.specs.Prelude.{ℕ, zero, suc, ◌+◌, Bool, true, false, ◌||◌, ◌&&◌, nat_lt, if◌then◌else◌, List, [], ◌∷◌, ◌++◌, map, take, drop, get_or, Option, Some, None, codes}
 use Rattle.tla_ast.specs.declared.place.Place.{Place}
-use Rattle.tla_ast.specs.declared.tree.Decl.{Decl}
-use Rattle.plain_syntax.specs.Plain.{Text, Term, Terms, Shape, Updates, Keys, Groups, Defs}
-use Rattle.plain_syntax.specs.Plain.Term.{term}
-use Rattle.plain_syntax.specs.Plain.Terms.{none, part}
-use Rattle.plain_syntax.specs.Plain.Shape.{name, call, prefixed, infixed, prime, except, box, angle, quantifier, choice, local, at, fair}
-use Rattle.plain_syntax.specs.Plain.Updates.{end_updates, update}
-use Rattle.plain_syntax.specs.Plain.Keys.{end_keys, key, field_key}
-use Rattle.plain_syntax.specs.Plain.Groups.{end_groups, free, within}
-use Rattle.plain_syntax.specs.Plain.Defs.{end_defs, def}
+use Rattle.plain_syntax.specs.Plain.{Text, Shape}
+use Rattle.plain_syntax.specs.Plain.Shape.{prefixed, infixed, prime, fair}
 use Rattle.expression_level.specs.declared.weight.Use.{Use}
-use Rattle.expression_level.specs.Levels.{is_word, higher, greatest, raised, bind, has_fault, fault_if, Applied}
+use Rattle.expression_level.specs.Levels.{is_word, higher, greatest, raised, has_fault, fault_if, Applied}
 
 -- the level where all parameters have level 0; how each parameter counts; the faults that stand whatever they have
 pub record Weight : Type 0 where
@@ -23,6 +16,13 @@ pub record Weight : Type 0 where
 
 -- ---- under given levels of the parameters
 
+-- a level, and whether there is a fault
+abbrev pub Told : Type 0
+Told = ℕ × Bool
+
+abbrev pub merged : Told → Told → Told
+merged x y = (higher x.0 y.0, x.1 || y.1)
+
 abbrev pub counted : Use → ℕ → ℕ
 counted u l = higher (if u.plain then l else 0) (if u.raised then raised l else 0)
 
@@ -30,23 +30,17 @@ abbrev pub is_over : Option ℕ → ℕ → Bool
 is_over None l = false
 is_over (Some k) l = nat_lt k l
 
--- the level that the parameters give
-abbrev pub level_from : List Use → List ℕ → ℕ
-level_from [] ls = 0
-level_from (u ∷ us) [] = 0
-level_from (u ∷ us) (l ∷ ls) = higher (counted u l) (level_from us ls)
+-- the level that a parameter gives, and whether it is over its limit
+abbrev pub told_by : Use → ℕ → Told
+told_by u l = (counted u l, is_over u.limit l)
 
--- some parameter is over its limit
-abbrev pub breaks : List Use → List ℕ → Bool
-breaks [] ls = false
-breaks (u ∷ us) [] = false
-breaks (u ∷ us) (l ∷ ls) = is_over u.limit l || breaks us ls
+abbrev pub told_from : List Use → List ℕ → Told
+told_from [] ls = (0, false)
+told_from (u ∷ us) [] = (0, false)
+told_from (u ∷ us) (l ∷ ls) = merged (told_by u l) (told_from us ls)
 
-abbrev pub level_under : List ℕ → Weight → ℕ
-level_under ls w = higher w.least (level_from w.uses ls)
-
-abbrev pub fault_under : List ℕ → Weight → Bool
-fault_under ls w = has_fault w.faults || breaks w.uses ls
+abbrev pub told_under : List ℕ → Weight → Told
+told_under ls w = merged (w.least, has_fault w.faults) (told_from w.uses ls)
 
 -- ---- weights together
 
@@ -56,7 +50,13 @@ stricter (Some k) None = Some k
 stricter (Some k) (Some l) = Some (if nat_lt k l then k else l)
 
 abbrev pub both : Use → Use → Use
-both u v = record { plain = u.plain || v.plain; raised = u.raised || v.raised; limit = stricter u.limit v.limit }
+both u v = record {
+  plain = u.plain || v.plain;
+  raised = u.raised || v.raised;
+  limit = stricter u.limit v.limit;
+  held = u.held || v.held;
+  primed = u.primed || v.primed;
+}
 
 abbrev pub all_uses : List Use → List Use → List Use
 all_uses [] vs = vs
@@ -73,9 +73,9 @@ abbrev pub total : List Weight → Weight
 total [] = nothing
 total (w ∷ ws) = join w (total ws)
 
--- a use of which only the limit is left
+-- a use of which no level is left
 abbrev pub kept : Use → Use
-kept u = record { plain = false; raised = false; limit = u.limit }
+kept u = record u { plain = false; raised = false }
 
 -- a level whatever the parameters are, with what they are asked for
 abbrev pub fixed : ℕ → Weight → Weight
@@ -95,7 +95,7 @@ abbrev pub asked : ℕ → Use → Option ℕ
 asked k u = stricter (asked_plain k u.plain) (asked_raised k u.raised)
 
 abbrev pub capped_use : ℕ → Use → Use
-capped_use k u = record { plain = u.plain; raised = u.raised; limit = stricter u.limit (asked k u) }
+capped_use k u = record u { limit = stricter u.limit (asked k u) }
 
 -- a weight that must not be over a limit: what that asks of parameters
 abbrev pub capped : ℕ → Weight → Weight
@@ -106,14 +106,21 @@ abbrev pub limited : ℕ → Place → Weight → Weight
 limited k p w = with_fault (nat_lt k w.least) p (capped k w)
 
 abbrev pub raised_use : Use → Use
-raised_use u = record { plain = false; raised = u.plain || u.raised; limit = u.limit }
+raised_use u = record u { plain = false; raised = u.plain || u.raised }
 
 abbrev pub lifted : Weight → Weight
 lifted w = record { least = raised w.least; uses = map raised_use w.uses; faults = w.faults }
 
+-- all that stands in an expression is primed
+abbrev pub primed_use : Use → Use
+primed_use u = record u { primed = u.held }
+
+abbrev pub all_primed : Weight → Weight
+all_primed w = record { least = w.least; uses = map primed_use w.uses; faults = w.faults }
+
 abbrev pub prefix_weight : Text → Place → Weight → Weight
 prefix_weight o p w =
-    if is_word o (codes "UNCHANGED") then fixed 2 (limited 1 p w)
+    if is_word o (codes "UNCHANGED") then fixed 2 (limited 1 p (all_primed w))
     else (if is_word o (codes "ENABLED") then fixed 1 (limited 2 p w)
     else (if is_word o (codes "[]") || is_word o (codes "<>") then fixed 3 w else w))
 
@@ -123,13 +130,18 @@ infix_weight o w = if is_word o (codes "~>") then fixed 3 w else w
 abbrev pub form_weight : Shape → Place → Weight → Weight
 form_weight (prefixed o) p w = prefix_weight o p w
 form_weight (infixed o) p w = infix_weight o w
-form_weight prime p w = lifted (limited 1 p w)
+form_weight prime p w = lifted (limited 1 p (all_primed w))
 form_weight fair p w = fixed 3 w
 form_weight s p w = w
 
 -- an action and its subscript
 abbrev pub action_weight : Place → Weight → Weight → Weight
 action_weight p a v = fixed 2 (with_fault (nat_lt 2 a.least || nat_lt 1 v.least) p (join (capped 2 a) (capped 1 v)))
+
+-- an action with what stands behind it as its subscript, which it primes
+abbrev pub acted : Place → List Weight → Weight
+acted p [] = fixed 2 nothing
+acted p (w ∷ ws) = action_weight p w (all_primed (total ws))
 
 -- ---- names
 
@@ -146,7 +158,7 @@ depth_of (defined d l us b) = d
 -- what it has under given levels of the parameters round it
 abbrev pub function_of : List ℕ → Known → Applied
 function_of ls arguments args = (greatest args, false)
-function_of ls (defined d l us b) args = (higher l (level_from us (take d ls ++ args)), b || breaks us (take d ls ++ args))
+function_of ls (defined d l us b) args = merged (l, b) (told_from us (take d ls ++ args))
 
 -- the first items, as many as this, 0 where there are no more
 abbrev pub padded : ℕ → List ℕ → List ℕ
@@ -155,10 +167,10 @@ padded (suc n) [] = 0 ∷ padded n []
 padded (suc n) (l ∷ ls) = l ∷ padded n ls
 
 abbrev pub unused : Use
-unused = record { plain = false; raised = false; limit = None }
+unused = record { plain = false; raised = false; limit = None; held = false; primed = false }
 
 abbrev pub as_it_is : Use
-as_it_is = record { plain = true; raised = false; limit = None }
+as_it_is = record { plain = true; raised = false; limit = None; held = true; primed = false }
 
 -- the parameter at a position
 abbrev pub uses_of : ℕ → List Use
@@ -173,7 +185,12 @@ abbrev pub definition : ℕ → ℕ → Weight → Known
 definition d n w = defined d w.least (take (d + n) w.uses) (has_fault w.faults)
 
 abbrev pub unlimited : Use → Use
-unlimited u = record { plain = u.plain; raised = u.raised; limit = None }
+unlimited u = record u { limit = None }
+
+-- for each of the first so many parameters whether it is primed
+abbrev pub primed_first : List Use → ℕ → List Bool
+primed_first us zero = []
+primed_first us (suc n) = primed_first us n ++ (get_or us n unused).primed ∷ []
 
 -- what `@` stands for
 abbrev pub result_so_far : ℕ → Weight → Known
@@ -184,90 +201,39 @@ abbrev pub passed_limit : Option ℕ → Use → Option ℕ
 passed_limit None v = None
 passed_limit (Some k) v = asked k v
 
--- how the parameters of an argument count where the argument is used so
+-- how the parameters of an argument count where the argument is used so; where they stand is said of the argument itself
 abbrev pub passed : Use → Use → Use
-passed u v = record { plain = u.plain && v.plain; raised = (u.plain && v.raised) || (u.raised && (v.plain || v.raised)); limit = passed_limit u.limit v }
+passed u v = record {
+  plain = u.plain && v.plain;
+  raised = (u.plain && v.raised) || (u.raised && (v.plain || v.raised));
+  limit = passed_limit u.limit v;
+  held = false;
+  primed = false;
+}
 
-abbrev pub argument : Use → Weight → Weight
-argument u w = record { least = counted u w.least; uses = map (passed u) w.uses; faults = [] }
+-- and its level; a fault where it is over its limit in any case
+abbrev pub argument : Place → Use → Weight → Weight
+argument p u w = record { least = counted u w.least; uses = map (passed u) w.uses; faults = fault_if (is_over u.limit w.least) p }
 
-abbrev pub put : List Use → List Weight → Weight
-put [] ws = nothing
-put (u ∷ us) [] = nothing
-put (u ∷ us) (w ∷ ws) = join (argument u w) (put us ws)
+abbrev pub put : Place → List Use → List Weight → Weight
+put p [] ws = nothing
+put p (u ∷ us) [] = nothing
+put p (u ∷ us) (w ∷ ws) = join (argument p u w) (put p us ws)
 
-abbrev pub put_breaks : List Use → List Weight → Bool
-put_breaks [] ws = false
-put_breaks (u ∷ us) [] = false
-put_breaks (u ∷ us) (w ∷ ws) = is_over u.limit w.least || put_breaks us ws
+-- what a definition holds stands where its name does; what it primes is primed where its body is
+abbrev pub named : Use → Use
+named u = record u { primed = false }
 
 abbrev pub at_name : Place → Known → List Weight → Weight
 at_name p arguments ws = total ws
 at_name p (defined d l us b) ws =
-    with_fault (b || put_breaks (drop d us) ws) p
-    (join (fixed 0 (total ws)) (join (record { least = l; uses = take d us; faults = [] }) (put (drop d us) ws)))
+    let given = put p (drop d us) ws in
+    with_fault (b || has_fault given.faults) p
+    (join (fixed 0 (total ws)) (join (record { least = l; uses = map named (take d us); faults = [] }) (record given { faults = [] })))
 
-abbrev pub Env : Type 0
-Env = ℕ → Known
-
-abbrev pub known : Env → Option ℕ → Known
-known env None = arguments
-known env (Some n) = env n
+abbrev pub primed_if : Bool → Weight → Weight
+primed_if b w = if b then all_primed w else w
 
 -- what a weight asks of the parameters round a definition
 abbrev pub asked_round : ℕ → Weight → Weight
 asked_round d w = fixed 0 (record { least = 0; uses = take d w.uses; faults = w.faults })
-
-module _ (means : Place → Option ℕ) where
-  -- parameters stand for themselves
-  abbrev pub with_parameters : ℕ → Env → List Decl → Env
-  with_parameters d env [] = env
-  with_parameters d env (p ∷ ps) = with_parameters (suc d) (bind (means p.place) (parameter d) env) ps
-
-  -- the weight of an expression among so many parameters, where names have these and `@` stands for this
-  abbrev mutual
-    pub weigh : ℕ → Env → Known → Term → Weight
-    weigh d env a (term (name w) ts p) = at_name p (known env (means p)) (weigh_each d env a ts)
-    weigh d env a (term (call w) ts p) = at_name p (known env (means p)) (weigh_each d env a ts)
-    weigh d env a (term box none p) = fixed 2 nothing
-    weigh d env a (term box (part t ts) p) = action_weight p (weigh d env a t) (total (weigh_each d env a ts))
-    weigh d env a (term angle none p) = fixed 2 nothing
-    weigh d env a (term angle (part t ts) p) = action_weight p (weigh d env a t) (total (weigh_each d env a ts))
-    weigh d env a (term at ts p) = at_name p a []
-    weigh d env a (term (except us) none p) = nothing
-    weigh d env a (term (except us) (part t ts) p) = updates d env a (weigh d env a t) us
-    weigh d env a (term (quantifier all gs) ts p) = join (sets d env a gs) (total (weigh_each d env a ts))
-    weigh d env a (term (choice gs) ts p) = join (sets d env a gs) (total (weigh_each d env a ts))
-    weigh d env a (term (local ds) ts p) = join (bodies d env a ds) (total (weigh_each d (with_definitions d env a ds) a ts))
-    weigh d env a (term s ts p) = form_weight s p (total (weigh_each d env a ts))
-
-    pub weigh_each : ℕ → Env → Known → Terms → List Weight
-    weigh_each d env a none = []
-    weigh_each d env a (part t ts) = weigh d env a t ∷ weigh_each d env a ts
-
-    pub sets : ℕ → Env → Known → Groups → Weight
-    sets d env a end_groups = nothing
-    sets d env a (free ds gs) = sets d env a gs
-    sets d env a (within ds t gs) = join (weigh d env a t) (sets d env a gs)
-
-    pub updates : ℕ → Env → Known → Weight → Updates → Weight
-    updates d env a j end_updates = j
-    updates d env a j (update ks t us) =
-        let k = join j (keys d env a ks) in updates d env a (join k (weigh d env (result_so_far d k) t)) us
-
-    pub keys : ℕ → Env → Known → Keys → Weight
-    keys d env a end_keys = nothing
-    keys d env a (key t ks) = join (weigh d env a t) (keys d env a ks)
-    keys d env a (field_key h ks) = keys d env a ks
-
-    pub with_definitions : ℕ → Env → Known → Defs → Env
-    with_definitions d env a end_defs = env
-    with_definitions d env a (def w ps t p ds) =
-        with_definitions d (bind (means p) (definition d (length ps) (weigh (d + length ps) (with_parameters d env ps) a t)) env) a ds
-
-    -- what LET definitions ask for, where their own parameters have level 0
-    pub bodies : ℕ → Env → Known → Defs → Weight
-    bodies d env a end_defs = nothing
-    bodies d env a (def w ps t p ds) =
-        let j = weigh (d + length ps) (with_parameters d env ps) a t in
-        join (asked_round d j) (bodies d (bind (means p) (definition d (length ps) j) env) a ds)

@@ -2,6 +2,7 @@
 
 ghost use Rattle.std.specs.Prelude.{◌≡◌, ◌++◌, ◌-◌, ◌||◌, [], ◌∷◌, length, take, drop, codes, IfOk, OnOk};
 ghost use Rattle.expression_level.specs.Levels.{is_word};
+ghost use Rattle.tla_ast.specs.declared.tree.Node.{out-Node};
 ghost use Rattle.expression_level.specs.Scope as spec;
 ghost use Rattle.expression_level.specs.Weights as weights;
 
@@ -9,10 +10,10 @@ use crate::known::total;
 use crate::weight::Weight;
 use core_expr::Memory;
 use std::alloc::Global;
-use tla_ast::{Form, Place};
+use tla_ast::{Form, Node, Place};
 
 /// The prefix operator that primes what it is applied to.
-pub const UNCHANGED: &[u8] = b"UNCHANGED";
+const UNCHANGED: &[u8] = b"UNCHANGED";
 
 /// The other prefix operators that change a level.
 const ENABLED: &[u8] = b"ENABLED";
@@ -29,6 +30,7 @@ fn prefix(operator: &[u8], place: Place, weight: &mut Weight) -> Result<(), Memo
     ensures { OnOk result (weight.new ≡ weights.prefix_weight operator.now place weight.old) }
 {
     if operator == UNCHANGED {
+        weight.prime(true);
         weight.limit(1, place)?;
         weight.fix(2);
     } else if operator == ENABLED {
@@ -60,6 +62,7 @@ pub fn apply(form: &Form, place: Place, weight: &mut Weight) -> Result<(), Memor
             Ok(())
         }
         Form::Prime => {
+            weight.prime(true);
             weight.limit(1, place)?;
             weight.lift();
             Ok(())
@@ -74,10 +77,11 @@ pub fn apply(form: &Form, place: Place, weight: &mut Weight) -> Result<(), Memor
 
 /// An action and its subscript.
 pub fn act(mut action: Weight, mut subscript: Weight, place: Place) -> Result<Weight, Memory>
-    ensures { IfOk result (λ weight. weight ≡ weights.action_weight place action subscript) }
+    ensures { IfOk result (λ weight. weight ≡ weights.action_weight place action (weights.all_primed subscript)) }
 {
     let is_fault = 2 < action.least || 1 < subscript.least;
     action.cap(2);
+    subscript.prime(true);
     subscript.cap(1);
     action.join(subscript)?;
     action.note(is_fault, place)?;
@@ -86,19 +90,14 @@ pub fn act(mut action: Weight, mut subscript: Weight, place: Place) -> Result<We
 }
 
 /// An operator over the last of the weights on a stack, which it takes.
-pub fn operate(
-    alloc: Global,
-    stack: &mut Vec<Weight>,
-    form: &Form,
-    place: Place,
-    operands: usize,
-) -> Result<Weight, Memory>
-    ensures taken { OnOk result (stack.new.items ≡ take (length stack.old.items - operands) stack.old.items) }
-    ensures weight { IfOk result (λ weight. weight ≡ spec.by_form form.now place
-        (weights.total (drop (length stack.old.items - operands) stack.old.items))) }
+pub fn operate(alloc: Global, stack: &mut Vec<Weight>, node: &Node) -> Result<Weight, Memory>
+    ensures taken { OnOk result (stack.new.items
+        ≡ take (length stack.old.items - length (out-Node node.now).parts) stack.old.items) }
+    ensures weight { IfOk result (λ weight. weight ≡ spec.by_form (out-Node node.now).form (out-Node node.now).place
+        (weights.total (drop (length stack.old.items - length (out-Node node.now).parts) stack.old.items))) }
 {
-    let taken = stack.split_off(stack.len().saturating_sub(operands))?;
+    let taken = stack.split_off(stack.len().saturating_sub(node.parts.len()))?;
     let mut all = total(alloc, taken)?;
-    apply(form, place, &mut all)?;
+    apply(&node.form, node.place, &mut all)?;
     Ok(all)
 }

@@ -1,10 +1,10 @@
 //! What is known of a name, and what an application of it gives.
 
-ghost use Rattle.std.specs.Prelude.{◌≡◌, false, [], take, drop, IfOk};
+ghost use Rattle.std.specs.Prelude.{◌≡◌, false, [], map, take, drop, IfOk};
 ghost use Rattle.expression_level.specs.Levels.{has_fault};
 ghost use Rattle.expression_level.specs.Weights as spec;
 ghost use Rattle.expression_level.specs.Weights.{Known as seen};
-ghost use Rattle.expression_level.specs.Store.{found};
+ghost use Rattle.expression_level.specs.Store.{changed, found};
 
 use crate::weight::{Change, Use, Weight, change_all};
 use core_expr::Memory;
@@ -37,15 +37,15 @@ impl Model for Known {
     ghost view = { λ k. known_of k.definition };
 }
 
-/// The first uses.
-fn front(uses: &[Use], depth: usize) -> &[Use]
-    ensures { result.now ≡ take depth uses.now }
+/// The first uses, changed.
+fn copied(alloc: Global, uses: &[Use], depth: usize, change: Change) -> Result<Vec<Use>, Memory>
+    ensures { IfOk result (λ made. made.items ≡ map (changed change) (take depth uses.now)) }
 {
-    if depth < uses.len() {
-        &uses[..depth]
-    } else {
-        uses
-    }
+    let mut made = Vec::new(alloc);
+    made.extend_from_slice(uses)?;
+    made.truncate(depth);
+    change_all(&mut made, change);
+    Ok(made)
 }
 
 /// The uses behind the first.
@@ -87,16 +87,13 @@ impl Known {
         ensures { IfOk result (λ known. known ≡ spec.parameter position) }
     {
         let mut uses = Vec::new(alloc);
-        let unused = Use {
-            plain: false,
-            raised: false,
-            limit: None,
-        };
-        uses.resize(position, unused)?;
+        uses.resize(position, Use::unused())?;
         uses.push(Use {
             plain: true,
             raised: false,
             limit: None,
+            held: true,
+            primed: false,
         })?;
         let depth = position.checked_add(1).ok_or(Memory)?;
         Ok(Known {
@@ -113,14 +110,11 @@ impl Known {
     pub fn result_so_far(alloc: Global, depth: usize, weight: &Weight) -> Result<Known, Memory>
         ensures { IfOk result (λ known. known ≡ spec.result_so_far depth weight.now) }
     {
-        let mut uses = Vec::new(alloc);
-        uses.extend_from_slice(front(&weight.uses, depth))?;
-        change_all(&mut uses, Change::Unlimited);
         Ok(Known {
             definition: Some(Definition {
                 depth,
                 least: weight.least,
-                uses,
+                uses: copied(alloc, &weight.uses, depth, Change::Unlimited)?,
                 has_fault: false,
             }),
         })
@@ -144,9 +138,7 @@ pub fn defined(
         mut uses,
         faults,
     } = body;
-    let mut round = Vec::new(alloc);
-    round.extend_from_slice(front(&uses, depth))?;
-    change_all(&mut round, Change::Kept);
+    let round = copied(alloc, &uses, depth, Change::Kept)?;
     uses.truncate(inner);
     let known = Known {
         definition: Some(Definition {
@@ -175,43 +167,28 @@ pub fn total(alloc: Global, weights: Vec<Weight>) -> Result<Weight, Memory>
     Ok(all)
 }
 
-/// What arguments give where they are used so.
-fn put(alloc: Global, own: &[Use], args: &[Weight]) -> Result<Weight, Memory>
-    ensures { IfOk result (λ all. all ≡ spec.put own.now args.now) }
+/// What arguments give where they are used so, with a fault at the place for each that is over its limit.
+fn put(alloc: Global, own: &[Use], args: &[Weight], place: Place) -> Result<Weight, Memory>
+    ensures { IfOk result (λ all. all ≡ spec.put place own.now args.now) }
 {
     let mut all = Weight::nothing(alloc);
     for index in 0..own.len().min(args.len()) {
         let arg = &args[index];
-        let given = arg.argument(alloc, own[index])?;
+        let given = arg.argument(alloc, own[index], place)?;
         all.join(given)?;
     }
     Ok(all)
-}
-
-/// Whether an argument is over its limit, whatever parameters have.
-fn put_breaks(own: &[Use], args: &[Weight]) -> bool
-    ensures { result ≡ spec.put_breaks own.now args.now }
-{
-    for index in 0..own.len().min(args.len()) {
-        let arg = &args[index];
-        if own[index].is_over(arg.least) {
-            return true;
-        }
-    }
-    false
 }
 
 impl Definition {
     /// What it gives without its arguments.
     fn outer(&self, alloc: Global) -> Result<Weight, Memory>
         ensures { IfOk result (λ weight. weight
-            ≡ record { least = self.now.least; uses = take self.now.depth self.now.uses.items; faults = [] }) }
+            ≡ record { least = self.now.least; uses = map spec.named (take self.now.depth self.now.uses.items); faults = [] }) }
     {
-        let mut uses = Vec::new(alloc);
-        uses.extend_from_slice(front(&self.uses, self.depth))?;
         Ok(Weight {
             least: self.least,
-            uses,
+            uses: copied(alloc, &self.uses, self.depth, Change::Named)?,
             faults: Vec::new(alloc),
         })
     }
@@ -221,9 +198,9 @@ impl Definition {
         ensures { IfOk result (λ weight. weight ≡ spec.at_name place
             (seen.defined self.now.depth self.now.least self.now.uses.items self.now.has_fault) args.items) }
     {
-        let own = behind(&self.uses, self.depth);
-        let is_fault = self.has_fault || put_breaks(own, &args);
-        let given = put(alloc, own, &args)?;
+        let mut given = put(alloc, behind(&self.uses, self.depth), &args, place)?;
+        let is_over = given.settle();
+        let is_fault = self.has_fault || is_over;
         let mut outer = self.outer(alloc)?;
         outer.join(given)?;
         let mut all = total(alloc, args)?;

@@ -2,7 +2,8 @@
 
 ghost use Rattle.std.specs.Prelude.{◌≡◌, ◌<◌, [], length, OnOk, IfOk};
 ghost use Rattle.expression_level.specs.Levels as spec;
-ghost use Rattle.expression_level.specs.Store.{AllClosed, levels_of};
+ghost use Rattle.expression_level.specs.Primed.{primed_parameters};
+ghost use Rattle.expression_level.specs.Store.{AllClosed, levels_of, flags_of};
 ghost use Rattle.expression_level.specs.Weights.{depth_of, function_of};
 ghost use Rattle.plain_syntax.specs.Syntax.{term_of};
 ghost use Rattle.symbol_table.specs.Symbols.{symbol_at};
@@ -12,9 +13,10 @@ use crate::names::Names;
 use crate::walk::weigh;
 use crate::weight::Weight;
 use core_expr::Memory;
+use sqlite_items::Items;
 use std::alloc::Global;
 use std::marker::Model;
-use symbol_table::Symbols;
+use symbol_table::{Entry, Symbols};
 use tla_ast::{Decl, Node, Place};
 
 /// What each declared number has: its level under given levels of its arguments, the function `levels_of` of what contracts see.
@@ -41,6 +43,15 @@ impl Model for Levels {
 pub struct Judged {
     pub level: u64,
     pub faults: Vec<Place>,
+}
+
+/// What a definition has: the level of its body where each parameter has level 0; and for each parameter whether the body primes
+/// it: whether it stands there under a prime, in what UNCHANGED or a subscript of an action is applied to, or in an argument that
+/// the applied definition primes.
+#[derive(Debug, Drop)]
+pub struct Defined {
+    pub level: u64,
+    pub primed: Items<bool>,
 }
 
 impl Levels {
@@ -70,8 +81,7 @@ impl Levels {
         keep(&mut self.known, number, Known::constant(alloc, level))
     }
 
-    /// A definition with its parameters and body, whose names mean what the symbols say. Answers the level of the body where each
-    /// parameter has level 0.
+    /// A definition with its parameters and body, whose names mean what the symbols say, among definitions with these entries.
     pub fn define(
         &mut self,
         alloc: Global,
@@ -79,16 +89,28 @@ impl Levels {
         params: &[Decl],
         body: &Node,
         symbols: &Symbols,
-    ) -> Result<u64, Memory>
-        ensures level { IfOk result (λ found. found ≡ (spec.definition_level (symbol_at symbols.now)
+        entries: &[Entry],
+    ) -> Result<Defined, Memory>
+        ensures level { IfOk result (λ found. found.level ≡ (spec.definition_level (symbol_at symbols.now)
             (levels_of self.old) params.now (term_of body.now) []).0) }
+        ensures primed { IfOk result (λ found. found.primed ≡ primed_parameters (symbol_at symbols.now)
+            (flags_of entries.now) params.now (term_of body.now)) }
         ensures defined { OnOk result (levels_of self.new ≡ spec.bound number
             (spec.definition_level (symbol_at symbols.now) (levels_of self.old) params.now (term_of body.now))
             (levels_of self.old)) }
     {
-        let (known, level) = body_known(alloc, &self.known, params, body, symbols)?;
-        keep(&mut self.known, number, known)?;
-        Ok(level)
+        let mut names = Names::new(alloc, symbols, entries, &self.known);
+        let inner = names.bind_parameters(0, params)?;
+        let at = Known::constant(alloc, 0);
+        let weight = weigh(&mut names, inner, &at, body)?;
+        let found = Defined {
+            level: weight.least,
+            primed: weight.primed(alloc, inner)?,
+        };
+        let (kept, _asked) = defined(alloc, 0, inner, weight)?;
+        drop(names);
+        keep(&mut self.known, number, kept)?;
+        Ok(found)
     }
 
     /// The level of an expression and its faults, where names mean what the symbols say and `@` has level 0.
@@ -96,13 +118,13 @@ impl Levels {
         ensures { IfOk result (λ found. (found.level, found.faults.items)
             ≡ spec.level (symbol_at symbols.now) (levels_of self.now) 0 (term_of node.now)) }
     {
-        let mut names = Names::new(alloc, symbols, &self.known);
+        let mut names = Names::new(alloc, symbols, &[], &self.known);
         let at = Known::constant(alloc, 0);
         let Weight {
             least,
             uses: _,
             faults,
-        } = weigh(alloc, &mut names, 0, &at, node)?;
+        } = weigh(&mut names, 0, &at, node)?;
         Ok(Judged {
             level: least,
             faults,
@@ -133,27 +155,4 @@ fn keep(known: &mut Vec<Known>, number: u64, value: Known) -> Result<(), Memory>
     reach(known, number)?;
     known[number] = value;
     Ok(())
-}
-
-/// What a definition has, and the level of its body where each parameter has level 0.
-fn body_known(
-    alloc: Global,
-    known: &[Known],
-    params: &[Decl],
-    body: &Node,
-    symbols: &Symbols,
-) -> Result<(Known, u64), Memory>
-    ensures closed { IfOk result (λ made. depth_of made.0 ≡ 0) }
-    ensures known { AllClosed known.now → IfOk result (λ made. function_of [] made.0
-        ≡ spec.definition_level (symbol_at symbols.now) (levels_of known.now) params.now (term_of body.now)) }
-    ensures level { AllClosed known.now → IfOk result (λ made. made.1 ≡ (spec.definition_level
-        (symbol_at symbols.now) (levels_of known.now) params.now (term_of body.now) []).0) }
-{
-    let mut names = Names::new(alloc, symbols, known);
-    let inner = names.bind_parameters(alloc, 0, params)?;
-    let at = Known::constant(alloc, 0);
-    let weight = weigh(alloc, &mut names, inner, &at, body)?;
-    let level = weight.level();
-    let (found, _asked) = defined(alloc, 0, inner, weight)?;
-    Ok((found, level))
 }

@@ -9,11 +9,7 @@ mod form;
 mod known;
 mod levels;
 mod names;
-mod occurrence;
-mod primed;
-mod query;
 mod walk;
 mod weight;
 
-pub use levels::{Judged, Levels};
-pub use primed::primed_flags;
+pub use levels::{Defined, Judged, Levels};

@@ -8,7 +8,7 @@ use crate::known::Known;
 use core_expr::Memory;
 use std::alloc::Global;
 use std::marker::Model;
-use symbol_table::Symbols;
+use symbol_table::{Entry, Symbols};
 use tla_ast::{Decl, Place};
 
 /// A parameter or a definition of a LET, by number.
@@ -18,11 +18,13 @@ pub struct Local {
     pub known: Known,
 }
 
-/// What the names of a module mean, what is declared, and the parameters and definitions round a place of an expression, which
+/// What the names of a module mean, the entries and levels of what is declared, and the parameters and definitions round a place of an expression, which
 /// come before what is declared; the newest of a number counts.
 #[derive(Drop)]
 pub struct Names<'a> {
+    alloc: Global,
     symbols: &'a Symbols,
+    entries: &'a [Entry],
     declared: &'a [Known],
     locals: Vec<Local>,
 }
@@ -32,24 +34,36 @@ impl<'a> Model for Names<'a> {
 
     ghost Value = { Seen };
 
-    ghost view = { λ s. record { symbols = s.symbols.now; declared = s.declared.now; locals = s.locals.items } };
+    ghost view = { λ s. record { symbols = s.symbols.now; entries = s.entries.now; env = record { declared = s.declared.now; locals = s.locals.items } } };
 }
 
 impl<'a> Names<'a> {
     /// What is declared, and nothing else.
-    pub fn new(alloc: Global, symbols: &'a Symbols, declared: &'a [Known]) -> Names<'a>
-        ensures { result ≡ spec.names_of symbols.now declared.now }
+    pub fn new(
+        alloc: Global,
+        symbols: &'a Symbols,
+        entries: &'a [Entry],
+        declared: &'a [Known],
+    ) -> Names<'a>
+        ensures { result ≡ spec.names_of symbols.now entries.now declared.now }
     {
         Names {
+            alloc,
             symbols,
+            entries,
             declared,
             locals: Vec::new(alloc),
         }
     }
 
+    /// What gives memory.
+    pub fn alloc(&self) -> Global {
+        self.alloc
+    }
+
     /// What the newest parameter or definition of a number has.
     fn local(&self, number: u64) -> Option<&Known>
-        ensures { spec.newest result ≡ spec.local self.now.locals number }
+        ensures { spec.found_local result ≡ spec.newest self.now.env.locals number }
     {
         let mut left = self.locals.len();
         while left > 0 {
@@ -64,12 +78,25 @@ impl<'a> Names<'a> {
 
     /// What the name at a place has, if it is known.
     pub fn at(&self, place: Place) -> Option<&Known>
-        ensures { found result ≡ spec.at self.now place }
+        ensures { found result ≡ spec.at_place self.now place }
     {
         let number = self.symbols.at(place)?;
         match self.local(number) {
             Some(known) => Some(known),
             None => self.declared.get(number as usize),
+        }
+    }
+
+    /// Which parameters the definition primes that the name at a place stands for.
+    pub fn flags(&self, place: Place) -> &'a [bool]
+        ensures { result.now ≡ spec.flags_in self.now (spec.means_in self.now place) }
+    {
+        match self.symbols.at(place) {
+            None => &[],
+            Some(number) => match self.entries.get(number as usize) {
+                None => &[],
+                Some(entry) => entry.primed.as_slice(),
+            },
         }
     }
 
@@ -85,7 +112,7 @@ impl<'a> Names<'a> {
 
     /// How many parameters and definitions there are.
     pub fn mark(&self) -> usize
-        ensures { result ≡ length self.now.locals }
+        ensures { result ≡ length self.now.env.locals }
     {
         self.locals.len()
     }
@@ -98,18 +125,13 @@ impl<'a> Names<'a> {
     }
 
     /// The parameters of a definition, which stand for themselves, behind so many others. Answers how many there are then.
-    pub fn bind_parameters(
-        &mut self,
-        alloc: Global,
-        depth: usize,
-        params: &[Decl],
-    ) -> Result<usize, Memory>
-        ensures bound { OnOk result (self.new ≡ spec.with_parameters depth params.now self.old) }
+    pub fn bind_parameters(&mut self, depth: usize, params: &[Decl]) -> Result<usize, Memory>
+        ensures bound { OnOk result (self.new ≡ spec.with_more depth params.now self.old) }
         ensures depth { IfOk result (λ inner. inner ≡ depth + length params.now) }
     {
         let mut inner = depth;
         for param in params {
-            self.bind(param.place, Known::parameter(alloc, inner)?)?;
+            self.bind(param.place, Known::parameter(self.alloc, inner)?)?;
             inner = inner.checked_add(1).ok_or(Memory)?;
         }
         Ok(inner)

@@ -1,6 +1,6 @@
 //! The weight of an expression.
 
-ghost use Rattle.std.specs.Prelude.{◌≡◌, ◌+◌, [], ◌∷◌, map, IfOk, OnOk};
+ghost use Rattle.std.specs.Prelude.{◌≡◌, ◌+◌, [], ◌∷◌, map, get_or, false, IfOk, OnOk};
 ghost use Rattle.tla_ast.specs.declared.tree.Node.{out-Node};
 ghost use Rattle.tla_ast.specs.declared.tree.Def.{out-Def};
 ghost use Rattle.tla_ast.specs.declared.tree.Group.{out-Group};
@@ -15,199 +15,144 @@ use crate::names::Names;
 use crate::weight::Weight;
 use core_expr::Memory;
 use plain_syntax::{is_operator, operator_order};
-use std::alloc::Global;
 use tla_ast::{Def, Form, Group, Key, Node, Path};
 
 /// The weight of an expression among so many parameters, where `@` stands for what is known. Operators are met in a loop.
 #[cycle(weigh)]
-pub fn weigh(
-    alloc: Global,
-    names: &mut Names<'_>,
-    depth: usize,
-    at: &Known,
-    node: &Node,
-) -> Result<Weight, Memory>
+pub fn weigh(names: &mut Names, depth: usize, at: &Known, node: &Node) -> Result<Weight, Memory>
     ensures same { OnOk result (names.new ≡ names.old) }
     ensures weight { IfOk result (λ weight. weight ≡ spec.weight_of names.old depth at.now (term_of node.now)) }
 {
-    let mut stack = Vec::new(alloc);
-    let nodes = operator_order(alloc, node)?;
+    let mut stack = Vec::new(names.alloc());
+    let nodes = operator_order(names.alloc(), node)?;
     for next in nodes.as_slice() {
-        turn(alloc, names, depth, at, *next, &mut stack)?;
+        let weight = if is_operator(&next.form) {
+            operate(names.alloc(), &mut stack, *next)?
+        } else {
+            leaf(names, depth, at, *next)?
+        };
+        stack.push(weight)?;
     }
     match stack.pop() {
         Some(weight) => Ok(weight),
-        None => Ok(Weight::nothing(alloc)),
+        None => Ok(Weight::nothing(names.alloc())),
     }
-}
-
-/// Puts the weight of a node on a stack, from which an operator takes those of its operands.
-#[cycle(weigh)]
-fn turn(
-    alloc: Global,
-    names: &mut Names<'_>,
-    depth: usize,
-    at: &Known,
-    node: &Node,
-    stack: &mut Vec<Weight>,
-) -> Result<(), Memory>
-    ensures same { OnOk result (names.new ≡ names.old) }
-    ensures turned { OnOk result (stack.new.items
-        ≡ spec.turned names.old depth at.now stack.old.items (term_of node.now)) }
-{
-    if is_operator(&node.form) {
-        let weight = operate(alloc, stack, &node.form, node.place, node.parts.len())?;
-        stack.push(weight)?;
-        return Ok(());
-    }
-    let weight = leaf(alloc, names, depth, at, node)?;
-    stack.push(weight)?;
-    Ok(())
 }
 
 /// The weight of an expression that is no operator over others.
 #[cycle(weigh)]
-fn leaf(
-    alloc: Global,
-    names: &mut Names<'_>,
-    depth: usize,
-    at: &Known,
-    node: &Node,
-) -> Result<Weight, Memory>
+fn leaf(names: &mut Names, depth: usize, at: &Known, node: &Node) -> Result<Weight, Memory>
     ensures same { OnOk result (names.new ≡ names.old) }
     ensures weight { IfOk result (λ weight. weight ≡ spec.weight_of names.old depth at.now (term_of node.now)) }
 {
     match &node.form {
-        Form::Name(_) => name(alloc, names, depth, at, node),
-        Form::Call(_) => name(alloc, names, depth, at, node),
-        Form::BoxAct => action(alloc, names, depth, at, node),
-        Form::AngleAct => action(alloc, names, depth, at, node),
-        Form::At => {
-            let none = Vec::new(alloc);
-            at_name(alloc, Some(at), none, node.place)
+        Form::Name(_) | Form::Call(_) => {
+            let flags = names.flags(node.place);
+            let args = each(names, depth, at, flags, node.parts.as_slice())?;
+            at_name(names.alloc(), names.at(node.place), args, node.place)
         }
-        Form::Except(_) => except(alloc, names, depth, at, node),
+        Form::BoxAct | Form::AngleAct => action(names, depth, at, node),
+        Form::At => {
+            let none = Vec::new(names.alloc());
+            at_name(names.alloc(), Some(at), none, node.place)
+        }
+        Form::Except(_) => except(names, depth, at, node),
         Form::Quant { all: _, groups } => {
-            let before = sets(alloc, names, depth, at, groups.as_slice())?;
-            behind(alloc, names, depth, at, before, node)
+            let before = sets(names, depth, at, groups.as_slice())?;
+            behind(names, depth, at, before, node)
         }
         Form::Choose(group) => {
-            let before = domain(alloc, names, depth, at, group)?;
-            behind(alloc, names, depth, at, before, node)
+            let before = domain(names, depth, at, group)?;
+            behind(names, depth, at, before, node)
         }
         Form::Let(defs) => {
             let mark = names.mark();
-            let before = definitions(alloc, names, depth, at, defs.as_slice())?;
-            let all = behind(alloc, names, depth, at, before, node)?;
+            let before = definitions(names, depth, at, defs.as_slice())?;
+            let all = behind(names, depth, at, before, node)?;
             names.leave(mark);
             Ok(all)
         }
         _ => {
-            let parts = each(alloc, names, depth, at, node.parts.as_slice())?;
-            let mut all = total(alloc, parts)?;
+            let parts = each(names, depth, at, &[], node.parts.as_slice())?;
+            let mut all = total(names.alloc(), parts)?;
             apply(&node.form, node.place, &mut all)?;
             Ok(all)
         }
     }
 }
 
-/// Several expressions, one after another.
+/// Whether there is a flag at a position.
+fn is_flagged(flags: &[bool], position: usize) -> bool
+    ensures { result ≡ get_or flags.now position false }
+{
+    match flags.get(position) {
+        None => false,
+        Some(flag) => *flag,
+    }
+}
+
+/// Several expressions, one after another, of which those with a flag are primed.
 #[cycle(weigh)]
 fn each(
-    alloc: Global,
-    names: &mut Names<'_>,
+    names: &mut Names,
     depth: usize,
     at: &Known,
+    flags: &[bool],
     nodes: &[Node],
 ) -> Result<Vec<Weight>, Memory>
     ensures same { OnOk result (names.new ≡ names.old) }
     ensures weights { IfOk result (λ each. each.items
-        ≡ spec.weights_of names.old depth at.now (terms_of (map term_of nodes.now))) }
+        ≡ spec.weights_of names.old depth at.now flags.now (terms_of (map term_of nodes.now))) }
 {
-    let mut found = Vec::new(alloc);
-    for node in nodes {
-        let weight = weigh(alloc, names, depth, at, node)?;
+    let mut found = Vec::new(names.alloc());
+    for (index, node) in nodes.iter().enumerate() {
+        let mut weight = weigh(names, depth, at, node)?;
+        weight.prime(is_flagged(flags, index));
         found.push(weight)?;
     }
     Ok(found)
 }
 
-/// A name with its arguments.
-#[cycle(weigh)]
-fn name(
-    alloc: Global,
-    names: &mut Names<'_>,
-    depth: usize,
-    at: &Known,
-    node: &Node,
-) -> Result<Weight, Memory>
-    ensures same { OnOk result (names.new ≡ names.old) }
-    ensures weight { IfOk result (λ weight. weight
-        ≡ weights.at_name (out-Node node.now).place (spec.at names.old (out-Node node.now).place)
-        (spec.weights_of names.old depth at.now (terms_of (map term_of (out-Node node.now).parts)))) }
-{
-    let args = each(alloc, names, depth, at, node.parts.as_slice())?;
-    at_name(alloc, names.at(node.place), args, node.place)
-}
-
 /// An action with its subscript.
 #[cycle(weigh)]
-fn action(
-    alloc: Global,
-    names: &mut Names<'_>,
-    depth: usize,
-    at: &Known,
-    node: &Node,
-) -> Result<Weight, Memory>
+fn action(names: &mut Names, depth: usize, at: &Known, node: &Node) -> Result<Weight, Memory>
     ensures same { OnOk result (names.new ≡ names.old) }
-    ensures weight { IfOk result (λ weight. weight ≡ spec.acted names.old depth at.now (out-Node node.now).place
-        (terms_of (map term_of (out-Node node.now).parts))) }
+    ensures weight { IfOk result (λ weight. weight ≡ weights.acted (out-Node node.now).place
+        (spec.weights_of names.old depth at.now [] (terms_of (map term_of (out-Node node.now).parts)))) }
 {
     let Some((first, rest)) = node.parts.as_slice().split_first() else {
-        let mut none = Weight::nothing(alloc);
+        let mut none = Weight::nothing(names.alloc());
         none.fix(2);
         return Ok(none);
     };
-    let taken = weigh(alloc, names, depth, at, first)?;
-    let others = each(alloc, names, depth, at, rest)?;
-    let subscript = total(alloc, others)?;
+    let taken = weigh(names, depth, at, first)?;
+    let others = each(names, depth, at, &[], rest)?;
+    let subscript = total(names.alloc(), others)?;
     act(taken, subscript, node.place)
 }
 
 /// The set of a group of bounds.
 #[cycle(weigh)]
-fn domain(
-    alloc: Global,
-    names: &mut Names<'_>,
-    depth: usize,
-    at: &Known,
-    group: &Group,
-) -> Result<Weight, Memory>
+fn domain(names: &mut Names, depth: usize, at: &Known, group: &Group) -> Result<Weight, Memory>
     ensures same { OnOk result (names.new ≡ names.old) }
     ensures weight { IfOk result (λ weight. weight
         ≡ spec.domain_weight names.old depth at.now (out-Group group.now).domain) }
 {
     match &group.domain {
-        None => Ok(Weight::nothing(alloc)),
-        Some(set) => weigh(alloc, names, depth, at, set.get()),
+        None => Ok(Weight::nothing(names.alloc())),
+        Some(set) => weigh(names, depth, at, set.get()),
     }
 }
 
 /// The sets of bounds.
 #[cycle(weigh)]
-fn sets(
-    alloc: Global,
-    names: &mut Names<'_>,
-    depth: usize,
-    at: &Known,
-    groups: &[Group],
-) -> Result<Weight, Memory>
+fn sets(names: &mut Names, depth: usize, at: &Known, groups: &[Group]) -> Result<Weight, Memory>
     ensures same { OnOk result (names.new ≡ names.old) }
     ensures weight { IfOk result (λ weight. weight ≡ spec.sets_of names.old depth at.now (each_group groups.now)) }
 {
-    let mut all = Weight::nothing(alloc);
+    let mut all = Weight::nothing(names.alloc());
     for group in groups {
-        let weight = domain(alloc, names, depth, at, group)?;
+        let weight = domain(names, depth, at, group)?;
         all.join(weight)?;
     }
     Ok(all)
@@ -216,8 +161,7 @@ fn sets(
 /// The parts of a node, behind what stands before them.
 #[cycle(weigh)]
 fn behind(
-    alloc: Global,
-    names: &mut Names<'_>,
+    names: &mut Names,
     depth: usize,
     at: &Known,
     before: Weight,
@@ -225,30 +169,24 @@ fn behind(
 ) -> Result<Weight, Memory>
     ensures same { OnOk result (names.new ≡ names.old) }
     ensures weight { IfOk result (λ weight. weight ≡ weights.join before
-        (weights.total (spec.weights_of names.old depth at.now (terms_of (map term_of (out-Node node.now).parts))))) }
+        (weights.total (spec.weights_of names.old depth at.now [] (terms_of (map term_of (out-Node node.now).parts))))) }
 {
-    let parts = each(alloc, names, depth, at, node.parts.as_slice())?;
+    let parts = each(names, depth, at, &[], node.parts.as_slice())?;
     let mut all = before;
-    all.join(total(alloc, parts)?)?;
+    all.join(total(names.alloc(), parts)?)?;
     Ok(all)
 }
 
 /// A key of an update.
 #[cycle(weigh)]
-fn key(
-    alloc: Global,
-    names: &mut Names<'_>,
-    depth: usize,
-    at: &Known,
-    key: &Key,
-) -> Result<Weight, Memory>
+fn key(names: &mut Names, depth: usize, at: &Known, key: &Key) -> Result<Weight, Memory>
     ensures same { OnOk result (names.new ≡ names.old) }
     ensures weight { IfOk result (λ weight. weight ≡ spec.keys_on names.old depth at.now (each_key (key.now ∷ []))) }
 {
     match key {
-        Key::At(node) => weigh(alloc, names, depth, at, node),
+        Key::At(node) => weigh(names, depth, at, node),
         Key::Field(_) => {
-            let none = Weight::nothing(alloc);
+            let none = Weight::nothing(names.alloc());
             Ok(none)
         }
     }
@@ -256,20 +194,14 @@ fn key(
 
 /// The keys of an update.
 #[cycle(weigh)]
-fn keys(
-    alloc: Global,
-    names: &mut Names<'_>,
-    depth: usize,
-    at: &Known,
-    path: &Path,
-) -> Result<Weight, Memory>
+fn keys(names: &mut Names, depth: usize, at: &Known, path: &Path) -> Result<Weight, Memory>
     ensures same { OnOk result (names.new ≡ names.old) }
     ensures weight { IfOk result (λ weight. weight
         ≡ spec.keys_on names.old depth at.now (each_key (out-Path path.now).keys)) }
 {
-    let mut all = Weight::nothing(alloc);
+    let mut all = Weight::nothing(names.alloc());
     for part in path.keys.as_slice() {
-        let weight = key(alloc, names, depth, at, part)?;
+        let weight = key(names, depth, at, part)?;
         all.join(weight)?;
     }
     Ok(all)
@@ -277,34 +209,28 @@ fn keys(
 
 /// An EXCEPT: the function and the updates.
 #[cycle(weigh)]
-fn except(
-    alloc: Global,
-    names: &mut Names<'_>,
-    depth: usize,
-    at: &Known,
-    node: &Node,
-) -> Result<Weight, Memory>
+fn except(names: &mut Names, depth: usize, at: &Known, node: &Node) -> Result<Weight, Memory>
     ensures same { OnOk result (names.new ≡ names.old) }
     ensures weight { spec.IsExcept node.now → IfOk result (λ weight. weight
         ≡ spec.weight_of names.old depth at.now (term_of node.now)) }
 {
     let Form::Except(paths) = &node.form else {
-        return Ok(Weight::nothing(alloc));
+        return Ok(Weight::nothing(names.alloc()));
     };
     let Some((function, values)) = node.parts.as_slice().split_first() else {
-        let empty = Weight::nothing(alloc);
+        let empty = Weight::nothing(names.alloc());
         return Ok(empty);
     };
-    let mut all = weigh(alloc, names, depth, at, function)?;
+    let mut all = weigh(names, depth, at, function)?;
     let paths = paths.as_slice();
     for (index, value) in values.iter().enumerate() {
         if index >= paths.len() {
             return Ok(all);
         }
-        let found = keys(alloc, names, depth, at, &paths[index])?;
+        let found = keys(names, depth, at, &paths[index])?;
         all.join(found)?;
-        let now = Known::result_so_far(alloc, depth, &all)?;
-        let weight = weigh(alloc, names, depth, &now, value)?;
+        let now = Known::result_so_far(names.alloc(), depth, &all)?;
+        let weight = weigh(names, depth, &now, value)?;
         all.join(weight)?;
     }
     Ok(all)
@@ -312,42 +238,30 @@ fn except(
 
 /// A definition of a LET, which is known from then on. Answers what its body asks of the parameters round it.
 #[cycle(weigh)]
-fn definition(
-    alloc: Global,
-    names: &mut Names<'_>,
-    depth: usize,
-    at: &Known,
-    def: &Def,
-) -> Result<Weight, Memory>
+fn definition(names: &mut Names, depth: usize, at: &Known, def: &Def) -> Result<Weight, Memory>
     ensures known { OnOk result (names.new ≡ spec.with_definition depth at.now (out-Def def.now).params
         (term_of (out-Def def.now).body) (out-Def def.now).place names.old) }
     ensures weight { IfOk result (λ weight. weight ≡ weights.asked_round depth
         (spec.body_weight names.old depth at.now (out-Def def.now).params (term_of (out-Def def.now).body))) }
 {
     let mark = names.mark();
-    let inner = names.bind_parameters(alloc, depth, def.params.as_slice())?;
-    let body = weigh(alloc, names, inner, at, def.body.get())?;
+    let inner = names.bind_parameters(depth, def.params.as_slice())?;
+    let body = weigh(names, inner, at, def.body.get())?;
     names.leave(mark);
-    let (known, asked) = defined(alloc, depth, inner, body)?;
+    let (known, asked) = defined(names.alloc(), depth, inner, body)?;
     names.bind(def.place, known)?;
     Ok(asked)
 }
 
 /// The definitions of a LET.
 #[cycle(weigh)]
-fn definitions(
-    alloc: Global,
-    names: &mut Names<'_>,
-    depth: usize,
-    at: &Known,
-    defs: &[Def],
-) -> Result<Weight, Memory>
-    ensures known { OnOk result (names.new ≡ spec.with_definitions depth at.now (each_def defs.now) names.old) }
+fn definitions(names: &mut Names, depth: usize, at: &Known, defs: &[Def]) -> Result<Weight, Memory>
+    ensures known { OnOk result (names.new ≡ spec.with_all depth at.now (each_def defs.now) names.old) }
     ensures weight { IfOk result (λ weight. weight ≡ spec.bodies_of names.old depth at.now (each_def defs.now)) }
 {
-    let mut all = Weight::nothing(alloc);
+    let mut all = Weight::nothing(names.alloc());
     for def in defs {
-        let asked = definition(alloc, names, depth, at, def)?;
+        let asked = definition(names, depth, at, def)?;
         all.join(asked)?;
     }
     Ok(all)

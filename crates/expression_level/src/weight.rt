@@ -1,11 +1,12 @@
 //! How levels depend on parameters.
 
-ghost use Rattle.std.specs.Prelude.{◌≡◌, ◌||◌, ◌++◌, nat_lt, map, drop, IfOk, OnOk};
+ghost use Rattle.std.specs.Prelude.{◌≡◌, ◌||◌, ◌++◌, [], map, get_or, IfOk, OnOk};
 ghost use Rattle.expression_level.specs.Levels as levels;
 ghost use Rattle.expression_level.specs.Weights as spec;
 ghost use Rattle.expression_level.specs.Store.{changed};
 
 use core_expr::Memory;
+use sqlite_items::Items;
 use std::alloc::Global;
 use std::marker::Model;
 use tla_ast::Place;
@@ -21,7 +22,7 @@ pub fn higher(first: u64, second: u64) -> u64
 pub fn raised(level: u64) -> u64
     ensures { result ≡ levels.raised level }
 {
-    if level == 0 { 0 } else { 2 }
+    if 0 < level { 2 } else { 0 }
 }
 
 /// The stricter of two limits.
@@ -36,25 +37,33 @@ fn stricter(first: Option<u64>, second: Option<u64>) -> Option<u64>
 }
 
 /// How a parameter counts in the level of an expression: as it is, raised as by a prime, and the greatest level that is lawful
-/// for it.
+/// for it; and whether it stands in its text, and is primed there.
 #[derive(Clone, Copy, Debug)]
 pub struct Use {
     pub plain: bool,
     pub raised: bool,
     pub limit: Option<u64>,
+    pub held: bool,
+    pub primed: bool,
 }
 
 /// What is made of how parameters count.
 #[derive(Clone, Copy, Debug)]
 pub enum Change {
-    /// The limits alone are kept.
+    /// No level is left.
     Kept,
     /// The level must not be over this one.
     Capped(u64),
-    /// The expression is primed.
+    /// The level of the expression is that of a primed one.
     Raised,
     /// The limits are left aside.
     Unlimited,
+    /// All that stands in the expression is primed.
+    Primed,
+    /// The expression has a name, which primes nothing.
+    Named,
+    /// The expression is an argument that is used so.
+    Passed(Use),
 }
 
 impl Use {
@@ -66,6 +75,21 @@ impl Use {
             plain: self.plain || other.plain,
             raised: self.raised || other.raised,
             limit: stricter(self.limit, other.limit),
+            held: self.held || other.held,
+            primed: self.primed || other.primed,
+        }
+    }
+
+    /// A parameter that is not used.
+    pub fn unused() -> Use
+        ensures { result ≡ spec.unused }
+    {
+        Use {
+            plain: false,
+            raised: false,
+            limit: None,
+            held: false,
+            primed: false,
         }
     }
 
@@ -112,6 +136,8 @@ impl Use {
                 None => None,
                 Some(limit) => inner.asked(limit),
             },
+            held: false,
+            primed: false,
         }
     }
 
@@ -123,23 +149,30 @@ impl Use {
             Change::Kept => Use {
                 plain: false,
                 raised: false,
-                limit: self.limit,
+                ..self
             },
             Change::Capped(limit) => Use {
-                plain: self.plain,
-                raised: self.raised,
                 limit: stricter(self.limit, self.asked(limit)),
+                ..self
             },
             Change::Raised => Use {
                 plain: false,
                 raised: self.plain || self.raised,
-                limit: self.limit,
+                ..self
             },
             Change::Unlimited => Use {
-                plain: self.plain,
-                raised: self.raised,
                 limit: None,
+                ..self
             },
+            Change::Primed => Use {
+                primed: self.held,
+                ..self
+            },
+            Change::Named => Use {
+                primed: false,
+                ..self
+            },
+            Change::Passed(outer) => outer.passed(self),
         }
     }
 }
@@ -167,15 +200,14 @@ fn join_uses(uses: &mut Vec<Use>, others: &[Use]) -> Result<(), Memory>
     Ok(())
 }
 
-/// How the parameters of an argument count where the argument is used so.
-fn passed_uses(alloc: Global, outer: Use, uses: &[Use]) -> Result<Vec<Use>, Memory>
-    ensures { IfOk result (λ passed. passed.items ≡ map (spec.passed outer) uses.now) }
+/// Whether the parameter at a position is primed.
+fn is_primed(uses: &[Use], position: usize) -> bool
+    ensures { result ≡ (get_or uses.now position spec.unused).primed }
 {
-    let mut passed = Vec::new(alloc);
-    for inner in uses {
-        passed.push(outer.passed(*inner))?;
+    match uses.get(position) {
+        None => false,
+        Some(found) => found.primed,
     }
-    Ok(passed)
 }
 
 /// How the level of an expression depends on the levels of the parameters round it: the level where all have level 0, how each
@@ -207,11 +239,15 @@ impl Weight {
         }
     }
 
-    /// The level where all parameters have level 0.
-    pub fn level(&self) -> u64
-        ensures { result ≡ self.now.least }
+    /// For each of the first so many parameters whether it is primed.
+    pub fn primed(&self, alloc: Global, count: usize) -> Result<Items<bool>, Memory>
+        ensures { IfOk result (λ flags. flags ≡ spec.primed_first self.now.uses count) }
     {
-        self.least
+        let mut flags = Vec::new(alloc);
+        for position in 0..count {
+            flags.push(is_primed(&self.uses, position))?;
+        }
+        Ok(Items::from_vec(flags))
     }
 
     /// Two expressions side by side.
@@ -266,14 +302,38 @@ impl Weight {
         change_all(&mut self.uses, Change::Raised);
     }
 
-    /// What an argument gives where it is used so.
-    pub fn argument(&self, alloc: Global, outer: Use) -> Result<Weight, Memory>
-        ensures { IfOk result (λ weight. weight ≡ spec.argument outer self.now) }
+    /// All that stands in the expression is primed, if so.
+    pub fn prime(&mut self, is_so: bool)
+        ensures { self.new ≡ spec.primed_if is_so self.old }
     {
-        Ok(Weight {
+        if is_so {
+            change_all(&mut self.uses, Change::Primed);
+        }
+    }
+
+    /// What an argument gives where it is used so, with a fault at the place if it is over its limit.
+    pub fn argument(&self, alloc: Global, outer: Use, place: Place) -> Result<Weight, Memory>
+        ensures { IfOk result (λ weight. weight ≡ spec.argument place outer self.now) }
+    {
+        let mut uses = Vec::new(alloc);
+        uses.extend_from_slice(&self.uses)?;
+        change_all(&mut uses, Change::Passed(outer));
+        let mut given = Weight {
             least: outer.counted(self.least),
-            uses: passed_uses(alloc, outer, &self.uses)?,
+            uses,
             faults: Vec::new(alloc),
-        })
+        };
+        given.note(outer.is_over(self.least), place)?;
+        Ok(given)
+    }
+
+    /// Gives up its faults. Answers whether there was one.
+    pub fn settle(&mut self) -> bool
+        ensures settled { self.new ≡ record { least = self.old.least; uses = self.old.uses; faults = [] } }
+        ensures found { result ≡ levels.has_fault self.old.faults }
+    {
+        let found = !self.faults.is_empty();
+        self.faults.clear();
+        found
     }
 }

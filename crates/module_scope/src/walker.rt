@@ -10,7 +10,7 @@ ghost use Rattle.module_scope.specs.Names as spec;
 
 use crate::scope::Scope;
 use core_expr::{Memory, Text};
-use expression_level::{Levels, primed_flags};
+use expression_level::Levels;
 use sqlite_items::Items;
 use std::alloc::Global;
 use symbol_table::{Entry, EntrySort, Symbols};
@@ -203,17 +203,21 @@ impl<'a> Walker<'a> {
         let number = self.entries.len() as u64;
         let params = def.params.as_slice();
         let body = def.body.get();
-        let primed = primed_flags(alloc, &self.symbols, self.entries.as_slice(), params, body)?;
-        let level = self
-            .levels
-            .define(alloc, number, params, body, &self.symbols)?;
+        let found = self.levels.define(
+            alloc,
+            number,
+            params,
+            body,
+            &self.symbols,
+            self.entries.as_slice(),
+        )?;
         let text = Text::of(alloc, def.name.bytes())?;
         self.entries.push(Entry {
             name: text,
             sort: EntrySort::Definition,
             arity: params.len() as u64,
-            level,
-            primed,
+            level: found.level,
+            primed: found.primed,
         })?;
         self.scope.enter(def.name.bytes(), number)?;
         self.symbols.note(def.place, number)?;

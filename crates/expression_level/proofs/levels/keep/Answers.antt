@@ -10,4 +10,4 @@ returns-clause-kept c =
     ∙ ap (bound c.args.number (function_of [] c.args.value)) c.in_ok-reach.ensures.same
 
 pub returns-clause-closed : goal.returns-clause-closed
-returns-clause-closed c = λ h. closed-set c.reach.new.known.items c.args.number c.args.value (c.in_ok-reach.ensures.closed h) c.requires
+returns-clause-closed c = λ h. closed-set c.reach.new.known.items c.args.number c.args.value c.in_ok-reach.ensures.reached (c.in_ok-reach.ensures.closed h) c.requires

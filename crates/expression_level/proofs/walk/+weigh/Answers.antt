@@ -1,17 +1,18 @@
-use Rattle.std.proofs.Common.{◌≡◌, ◌≤◌, ◌<◌, ◌+◌, ◌++◌, [], ◌∷◌, map, take, drop, fold, length, slice_index_or, refl, sym, ap, subst, ◌∙◌, arith, append-nil}
+use Rattle.std.proofs.Common.{◌≡◌, ◌≤◌, ◌<◌, ◌+◌, ◌++◌, [], ◌∷◌, map, take, drop, fold, length, slice_index_or, get_or, refl, sym, ap, subst, ◌∙◌, arith, append-nil}
 use Rattle.tla_ast.specs.declared.tree.Node.{out-Node, size-Node}
 use Rattle.tla_ast.specs.declared.tree.Def.{out-Def}
 use Rattle.tla_ast.specs.declared.tree.Group.{out-Group}
 use Rattle.tla_ast.specs.declared.tree.Path.{out-Path}
+use Rattle.plain_syntax.proofs.Forms.{is-at, is-quantifier, is-local}
 use Rattle.plain_syntax.specs.Syntax.{term_of, terms_of, each_group, each_key, each_def}
 use Rattle.expression_level.specs.Levels.{has_fault}
-use Rattle.expression_level.specs.Weights.{at_name, join, total, action_weight, asked_round}
+use Rattle.expression_level.specs.Weights.{at_name, primed_if, join, total, acted, action_weight, all_primed, asked_round}
 use Rattle.expression_level.specs.Weights.Known.{defined}
-use Rattle.expression_level.specs.Scope.{turned, weight_of, weights_of, sets_of, keys_on, bodies_of, updates_on, domain_weight, by_form, acted, left, with_name, with_parameters, with_definitions}
-use Rattle.expression_level.proofs.Uses.{joined-nothing}
-use Rattle.expression_level.proofs.Locals.{definitions-left, parameters-left, weigh-with-parameters}
-use Rattle.expression_level.proofs.Walks.{in-order, turns-operator, turns-leaf, turn-next, weighs-name, weighs-call, weighs-box, weighs-angle, weighs-at, weighs-quant, weighs-choose, weighs-let, weighs-plain, sets-next, keys-next, weighs-key, weighs-field-key, each-next, updates-next, no-more-values, except-begins, except-empty, bodies-step, known-step, next-one, all-past, last-one, because, in-any-case}
+use Rattle.expression_level.specs.Scope.{turned, at_place, weight_of, weights_of, sets_of, keys_on, bodies_of, updates_on, domain_weight, by_form, left, with_name, with_more, with_all}
+use Rattle.expression_level.proofs.Locals.{definitions-left, parameters-left}
+use Rattle.expression_level.proofs.Walks.{in-order, weighs-name, weighs-action, turns-operator, turns-leaf, turn-next, weighs-choose, weighs-plain, rest-next, rest-ends, sets-group, keys-split, weighs-key, weighs-field-key, each-next, updates-next, no-more-values, except-begins, except-empty, bodies-step, known-step, next-one, all-past, last-one, because, in-any-case}
 use Rattle.expression_level.proofs.walk.+weigh.Goals as goal
+use Rattle.expression_level.proofs.walk.+weigh.Goals.{weigh-then-is_operator+in_ok-weight, weigh-else-is_operator+in_ok-weight-2}
 
 pub weigh-loop-next-init : goal.weigh-loop-next-init
 weigh-loop-next-init t c =
@@ -24,8 +25,8 @@ weigh-loop-next-init t c =
           ∙ in-order n c.args.depth c.args.at.now (term_of c.args.node.now) [];
     }
 
-pub weigh-turn-requires : goal.weigh-turn-requires
-weigh-turn-requires t c =
+pub weigh-leaf-requires : goal.weigh-leaf-requires
+weigh-leaf-requires t c =
     let r = c.next-item.result in
     let is : r ≡ slice_index_or c.in_ok-nodes.nodes.items c.loop-next.next-index r = c.next-item.is ∙ ap (λ l. slice_index_or l c.loop-next.next-index r) c.as_slice-next-items.ensures.value in
     let within : c.loop-next.next-index < length c.in_ok-nodes.nodes.items = subst (λ l. c.loop-next.next-index < length l) c.as_slice-next-items.ensures.value c.loop-next-test.true in
@@ -33,11 +34,22 @@ weigh-turn-requires t c =
     let d = c.decreases in (omega (arith, h, d), tt)
 
 pub weigh-loop-next-preserved : goal.weigh-loop-next-preserved
-weigh-loop-next-preserved t c = record {
-  same = c.in_ok-turn.ensures.same ∙ c.loop-next.invariant.same;
-  order = turn-next c.args.names.now c.args.depth c.args.at.now _ c.loop-next.stack.items c.turn.new.stack.items c.as_slice-next-items.result.now c.loop-next.next-index c.next-item.result c.loop-next.names
-      c.loop-next.invariant.order c.loop-next-test.true c.next-item.is c.loop-next.invariant.same c.in_ok-turn.ensures.turned;
-}
+weigh-loop-next-preserved t c =
+    let n = c.args.names.now in let d = c.args.depth in let k = c.args.at.now in let x = c.loop-next.invariant in let node = c.next-item.result.now in
+    let stack = c.loop-next.stack.items in
+    let order = turn-next n d k _ stack c.push.new.self.items c.as_slice-next-items.result.now c.loop-next.next-index c.next-item.result x.order c.loop-next-test.true c.next-item.is in
+    elim c.if-is_operator.branch [
+      | weigh-then-is_operator+in_ok-weight w ↦ record {
+        same = w.names-is ∙ x.same;
+        order = order (turns-operator n d k node stack w.operate.new.stack.items _ w.in_ok-weight.weight (sym c.is_operator.ensures ∙ w.if-is_operator.true) w.in_ok-weight.ensures.taken w.in_ok-weight.ensures.weight
+            (c.in_ok-push.ensures.items ∙ (λ i. (w.stack-is i).items ++ w.weight-is i ∷ [])));
+      }
+      | weigh-else-is_operator+in_ok-weight-2 w ↦ record {
+        same = w.names-is ∙ w.in_ok-weight-2.ensures.same ∙ x.same;
+        order = order (turns-leaf n d k node stack _ w.in_ok-weight-2.weight (sym c.is_operator.ensures ∙ w.if-is_operator.false) (w.in_ok-weight-2.ensures.weight ∙ ap (λ s. weight_of s d k (term_of node)) x.same)
+            (c.in_ok-push.ensures.items ∙ (λ i. (w.stack-is i).items ++ w.weight-is i ∷ [])));
+      }
+    ]
 
 pub weigh-returns-in-Some : goal.weigh-returns-in-Some
 weigh-returns-in-Some t c =
@@ -50,32 +62,19 @@ weigh-returns-in-Some t c =
           ∙ c.loop-next.invariant.order);
     }
 
-pub turn-returns-clause-turned : goal.turn-returns-clause-turned
-turn-returns-clause-turned t c =
-    turns-leaf c.args.names.now c.args.depth c.args.at.now c.args.node.now c.args.stack.now.items _ c.in_ok-weight-2.weight (sym c.if-is_operator.ensures) c.in_ok-weight-2.ensures.weight c.in_ok-push-2.ensures.items
-
-pub turn-returns-then-is_operator-clause-turned : goal.turn-returns-then-is_operator-clause-turned
-turn-returns-then-is_operator-clause-turned t c =
-    turns-operator c.args.names.now c.args.depth c.args.at.now c.args.node.now c.args.stack.now.items c.operate.new.stack.items _ c.len.result c.in_ok-weight.weight (sym c.if-is_operator.ensures) c.len.ensures
-    c.in_ok-weight.ensures.taken c.in_ok-weight.ensures.weight c.in_ok-push.ensures.items
-
-pub leaf-returns-in-Name-clause-weight : goal.leaf-returns-in-Name-clause-weight
-leaf-returns-in-Name-clause-weight t c = because _ _ c.name.result (weighs-name c.args.names.now c.args.depth c.args.at.now c.args.node.now _ c.in-Name.is) c.name.ensures.weight
-
-pub leaf-returns-in-Call-clause-weight : goal.leaf-returns-in-Call-clause-weight
-leaf-returns-in-Call-clause-weight t c = because _ _ c.name-in-Call.result (weighs-call c.args.names.now c.args.depth c.args.at.now c.args.node.now _ c.in-Call.is) c.name-in-Call.ensures.weight
+pub leaf-returns-in_ok-args-in-Name-clause-weight : goal.leaf-returns-in_ok-args-in-Name-clause-weight
+leaf-returns-in_ok-args-in-Name-clause-weight t c =
+    let n = c.args.names.now in let d = c.args.depth in let k = c.args.at.now in let p = (out-Node c.args.node.now).place in let e = c.in_ok-args-in-Name.ensures in
+    let args = e.weights ∙ (λ i. weights_of n d k (c.flags-flags.ensures i) (terms_of (map term_of (c.as_slice-in-Name.ensures i)))) in
+    because _ _ c.at_name-in-Name.result (weighs-name n d k c.args.node.now c.in-Name.is ∙ sym (λ i. at_name p ((c.at.ensures ∙ ap (λ s. at_place s p) e.same) i) (args i))) c.at_name-in-Name.ensures
 
 pub leaf-returns-in-BoxAct-clause-weight : goal.leaf-returns-in-BoxAct-clause-weight
-leaf-returns-in-BoxAct-clause-weight t c = because _ _ c.action.result (weighs-box c.args.names.now c.args.depth c.args.at.now c.args.node.now c.in-BoxAct.is) c.action.ensures.weight
-
-pub leaf-returns-in-AngleAct-clause-weight : goal.leaf-returns-in-AngleAct-clause-weight
-leaf-returns-in-AngleAct-clause-weight t c =
-    because _ _ c.action-in-AngleAct.result (weighs-angle c.args.names.now c.args.depth c.args.at.now c.args.node.now c.in-AngleAct.is) c.action-in-AngleAct.ensures.weight
+leaf-returns-in-BoxAct-clause-weight t c = because _ _ c.action.result (weighs-action c.args.names.now c.args.depth c.args.at.now c.args.node.now c.in-BoxAct.is) c.action.ensures.weight
 
 pub leaf-returns-in-At-clause-weight : goal.leaf-returns-in-At-clause-weight
 leaf-returns-in-At-clause-weight t c =
     let p = (out-Node c.args.node.now).place in
-    because _ _ c.at_name.result (weighs-at c.args.names.now c.args.depth c.args.at.now c.args.node.now c.in-At.is ∙ ap (at_name p c.args.at.now) (sym c.new-none.ensures.items)) c.at_name.ensures
+    because _ _ c.at_name.result (ap (weight_of c.args.names.now c.args.depth c.args.at.now) (is-at c.args.node.now c.in-At.is) ∙ ap (at_name p c.args.at.now) (sym c.new-none.ensures.items)) c.at_name.ensures
 
 pub leaf-returns-in-Except-clause-weight : goal.leaf-returns-in-Except-clause-weight
 leaf-returns-in-Except-clause-weight t c = c.except.ensures.weight (_, c.in-Except.is)
@@ -85,8 +84,8 @@ leaf-returns-in_ok-before-in-Quant-clause-weight t c =
     let n = c.args.names.now in let d = c.args.depth in let k = c.args.at.now in
     let s = c.in_ok-before-in-Quant.ensures.weight ∙ ap (λ l. sets_of n d k (each_group l)) c.as_slice.ensures in
     because _ _ c.behind.result
-    (weighs-quant n d k c.args.node.now _ _ c.in-Quant.is
-    ∙ sym (λ i. join (s i) (total (weights_of (c.in_ok-before-in-Quant.ensures.same i) d k (terms_of (map term_of (out-Node c.args.node.now).parts))))))
+    (ap (weight_of n d k) (is-quantifier c.args.node.now _ _ c.in-Quant.is)
+    ∙ sym (λ i. join (s i) (total (weights_of (c.in_ok-before-in-Quant.ensures.same i) d k [] (terms_of (map term_of (out-Node c.args.node.now).parts))))))
     c.behind.ensures.weight
 
 pub leaf-returns-in_ok-before-in-Choose-clause-weight : goal.leaf-returns-in_ok-before-in-Choose-clause-weight
@@ -94,7 +93,7 @@ leaf-returns-in_ok-before-in-Choose-clause-weight t c =
     let n = c.args.names.now in let d = c.args.depth in let k = c.args.at.now in
     because _ _ c.behind-in-Choose.result
     (weighs-choose n d k c.args.node.now _ c.in-Choose.is
-    ∙ sym (λ i. join (c.in_ok-before-in-Choose.ensures.weight i) (total (weights_of (c.in_ok-before-in-Choose.ensures.same i) d k (terms_of (map term_of (out-Node c.args.node.now).parts))))))
+    ∙ sym (λ i. join (c.in_ok-before-in-Choose.ensures.weight i) (total (weights_of (c.in_ok-before-in-Choose.ensures.same i) d k [] (terms_of (map term_of (out-Node c.args.node.now).parts))))))
     c.behind-in-Choose.ensures.weight
 
 pub leaf-returns-in_ok-all-in-Let-clause-same : goal.leaf-returns-in_ok-all-in-Let-clause-same
@@ -108,10 +107,10 @@ pub leaf-returns-in_ok-all-in-Let-clause-weight : goal.leaf-returns-in_ok-all-in
 leaf-returns-in_ok-all-in-Let-clause-weight t c =
     let n = c.args.names.now in let d = c.args.depth in let k = c.args.at.now in
     let s = c.in_ok-before-in-Let.ensures.weight ∙ ap (λ l. bodies_of n d k (each_def l)) c.as_slice-in-Let.ensures in
-    let m = c.in_ok-before-in-Let.ensures.known ∙ ap (λ l. with_definitions d k (each_def l) n) c.as_slice-in-Let.ensures in
+    let m = c.in_ok-before-in-Let.ensures.known ∙ ap (λ l. with_all d k (each_def l) n) c.as_slice-in-Let.ensures in
     c.in_ok-all-in-Let.ensures.weight
-    ∙ (λ i. join (s i) (total (weights_of (m i) d k (terms_of (map term_of (out-Node c.args.node.now).parts)))))
-    ∙ sym (weighs-let n d k c.args.node.now _ c.in-Let.is)
+    ∙ (λ i. join (s i) (total (weights_of (m i) d k [] (terms_of (map term_of (out-Node c.args.node.now).parts)))))
+    ∙ sym (ap (weight_of n d k) (is-local c.args.node.now _ c.in-Let.is))
 
 pub leaf-returns-in_ok-apply-in_default : goal.leaf-returns-in_ok-apply-in_default
 leaf-returns-in_ok-apply-in_default t c =
@@ -121,61 +120,56 @@ leaf-returns-in_ok-apply-in_default t c =
       weight =
           c.in_ok-apply-in_default.ensures
           ∙ ap (by_form (out-Node c.args.node.now).form (out-Node c.args.node.now).place)
-          (c.in_ok-all-in_default.ensures ∙ ap total (c.in_ok-parts-in_default.ensures.weights ∙ ap (λ l. weights_of n d k (terms_of (map term_of l))) c.as_slice-in_default.ensures))
-          ∙ sym (weighs-plain n d k c.args.node.now o.not-Name o.not-Call o.not-BoxAct o.not-AngleAct o.not-At o.not-Except o.not-Quant o.not-Choose o.not-Let);
+          (c.in_ok-all-in_default.ensures ∙ ap total (c.in_ok-parts-in_default.ensures.weights ∙ ap (λ l. weights_of n d k [] (terms_of (map term_of l))) c.as_slice-in_default.ensures))
+          ∙ sym (weighs-plain n d k c.args.node.now (o.not-Name, o.not-Call, o.not-BoxAct, o.not-AngleAct, o.not-At, o.not-Except, o.not-Quant, o.not-Choose, o.not-Let));
     }
 
-pub each-loop-node-preserved : goal.each-loop-node-preserved
-each-loop-node-preserved t c =
-    let n = c.args.names.now in let d = c.args.depth in let k = c.args.at.now in
+pub each-loop-index-preserved : goal.each-loop-index-preserved
+each-loop-index-preserved t c =
+    let n = c.args.names.now in let d = c.args.depth in let k = c.args.at.now in let x = c.loop-index.invariant in
+    let weight = c.in_ok-weight.ensures.weight ∙ ap (λ s. weight_of s d k (term_of c.index-nodes-index.result)) x.same in
     record {
-      same = c.in_ok-weight.ensures.same ∙ c.loop-node.invariant.same;
-      rest = each-next n d k _ c.loop-node.found.items c.push.new.self.items c.in_ok-weight.weight _ _ c.node-item.result c.loop-node.invariant.rest
-          (next-one c.args.nodes.now c.loop-node.node-index (c.loop-node.node-index + 1) c.node-item.result refl c.loop-node-test.true c.node-item.is)
-          (c.in_ok-weight.ensures.weight ∙ ap (λ s. weight_of s d k (term_of c.node-item.result)) c.loop-node.invariant.same) c.in_ok-push.ensures.items;
+      same = c.in_ok-weight.ensures.same ∙ x.same;
+      rest = each-next n d k _ c.loop-index.found.items c.push.new.self.items c.prime.new.self c.args.flags.now c.args.nodes.now c.loop-index.index c.index-nodes-index.result x.rest c.loop-index-test.true
+          c.index-nodes-index.is (c.prime.ensures ∙ (λ i. primed_if (c.is_flagged.ensures i) (weight i))) c.in_ok-push.ensures.items;
     }
 
 pub each-returns : goal.each-returns
 each-returns t c =
-    let n = c.args.names.now in let d = c.args.depth in let k = c.args.at.now in
+    let x = c.loop-index.invariant in
     record {
-      same = c.loop-node.invariant.same;
-      weights = sym (append-nil c.loop-node.found.items)
-          ∙ ap (λ l. c.loop-node.found.items ++ weights_of n d k (terms_of (map term_of l))) (sym (all-past c.args.nodes.now c.loop-node.node-index c.loop-node-test.false))
-          ∙ c.loop-node.invariant.rest;
+      same = x.same;
+      weights = sym (append-nil c.loop-index.found.items)
+          ∙ ap (λ l. c.loop-index.found.items ++ weights_of c.args.names.now c.args.depth c.args.at.now (drop c.loop-index.index c.args.flags.now) (terms_of (map term_of l))) (sym (all-past c.args.nodes.now c.loop-index.index c.loop-index-test.false))
+          ∙ x.rest;
     }
 
 pub action-returns : goal.action-returns
 action-returns t c =
     let n = c.args.names.now in let d = c.args.depth in let k = c.args.at.now in let p = (out-Node c.args.node.now).place in
-    let s = c.in_ok-subscript.ensures ∙ ap total (c.in_ok-others.ensures.weights ∙ ap (λ m. weights_of m d k (terms_of (map term_of c.in-Some.rest.now))) c.in_ok-taken.ensures.same) in
+    let s = c.in_ok-subscript.ensures ∙ ap total (c.in_ok-others.ensures.weights ∙ ap (λ m. weights_of m d k [] (terms_of (map term_of c.in-Some.rest.now))) c.in_ok-taken.ensures.same) in
     record {
       same = in-any-case c.act.result (c.in_ok-others.ensures.same ∙ c.in_ok-taken.ensures.same);
       weight = because _ _ c.act.result
-          (ap (λ l. acted n d k p (terms_of (map term_of l))) (sym c.as_slice.ensures ∙ c.in-Some.ensures.cases.0)
-          ∙ sym (λ i. action_weight p (c.in_ok-taken.ensures.weight i) (s i)))
+          (ap (λ l. acted p (weights_of n d k [] (terms_of (map term_of l)))) (sym c.as_slice.ensures ∙ c.in-Some.ensures.cases.0)
+          ∙ sym (λ i. action_weight p (c.in_ok-taken.ensures.weight i) (all_primed (s i))))
           c.act.ensures;
     }
 
 pub sets-loop-group-preserved : goal.sets-loop-group-preserved
 sets-loop-group-preserved t c =
-    let n = c.args.names.now in let d = c.args.depth in let k = c.args.at.now in
+    let n = c.args.names.now in let d = c.args.depth in let k = c.args.at.now in let x = c.loop-group.invariant in
     record {
-      same = c.in_ok-weight.ensures.same ∙ c.loop-group.invariant.same;
-      rest = sets-next n d k _ c.loop-group.all c.join.new.self c.in_ok-weight.weight _ _ c.group-item.result c.loop-group.invariant.rest
-          (next-one c.args.groups.now c.loop-group.group-index (c.loop-group.group-index + 1) c.group-item.result refl c.loop-group-test.true c.group-item.is)
-          (c.in_ok-weight.ensures.weight ∙ ap (λ s. domain_weight s d k (out-Group c.group-item.result).domain) c.loop-group.invariant.same) c.in_ok-join.ensures;
+      same = c.in_ok-weight.ensures.same ∙ x.same;
+      rest = rest-next (λ g. domain_weight n d k (out-Group g).domain) (λ l. sets_of n d k (each_group l)) (λ g l. sets-group n d k g (each_group l)) _ _ _ _ c.args.groups.now _ _
+          x.rest c.loop-group-test.true c.group-item.is (c.in_ok-weight.ensures.weight ∙ ap (λ s. domain_weight s d k (out-Group c.group-item.result).domain) x.same) c.in_ok-join.ensures;
     }
 
 pub sets-returns : goal.sets-returns
-sets-returns t c =
-    let n = c.args.names.now in let d = c.args.depth in let k = c.args.at.now in
-    record {
-      same = c.loop-group.invariant.same;
-      weight = sym (joined-nothing c.loop-group.all)
-          ∙ ap (λ l. join c.loop-group.all (sets_of n d k (each_group l))) (sym (all-past c.args.groups.now c.loop-group.group-index c.loop-group-test.false))
-          ∙ c.loop-group.invariant.rest;
-    }
+sets-returns t c = record {
+  same = c.loop-group.invariant.same;
+  weight = rest-ends (λ l. sets_of c.args.names.now c.args.depth c.args.at.now (each_group l)) refl _ _ c.args.groups.now _ c.loop-group.invariant.rest c.loop-group-test.false;
+}
 
 pub key-returns-in-At-clause-weight : goal.key-returns-in-At-clause-weight
 key-returns-in-At-clause-weight t c = because _ _ c.weigh.result (weighs-key c.args.names.now c.args.depth c.args.at.now c.args.key.now _ c.in-At.is) c.weigh.ensures.weight
@@ -185,25 +179,20 @@ key-returns-in-Field-clause-weight t c = c.nothing-none.ensures ∙ sym (weighs-
 
 pub keys-loop-part-preserved : goal.keys-loop-part-preserved
 keys-loop-part-preserved t c =
-    let n = c.args.names.now in let d = c.args.depth in let k = c.args.at.now in
+    let n = c.args.names.now in let d = c.args.depth in let k = c.args.at.now in let x = c.loop-part.invariant in let e = c.as_slice-part-items.ensures in
     record {
-      same = c.in_ok-weight.ensures.same ∙ c.loop-part.invariant.same;
-      rest = keys-next n d k _ c.loop-part.all c.join.new.self c.in_ok-weight.weight _ _ c.part-item.result c.loop-part.invariant.rest
-          (subst (λ l. drop c.loop-part.part-index l ≡ c.part-item.result ∷ drop (c.loop-part.part-index + 1) l) c.as_slice-part-items.ensures
-          (next-one c.as_slice-part-items.result.now c.loop-part.part-index (c.loop-part.part-index + 1) c.part-item.result refl c.loop-part-test.true c.part-item.is))
-          (c.in_ok-weight.ensures.weight ∙ ap (λ s. keys_on s d k (each_key (c.part-item.result ∷ []))) c.loop-part.invariant.same) c.in_ok-join.ensures;
+      same = c.in_ok-weight.ensures.same ∙ x.same;
+      rest = rest-next (λ y. keys_on n d k (each_key (y ∷ []))) (λ l. keys_on n d k (each_key l)) (λ y l. keys-split n d k y (each_key l)) _ _ _ _ (out-Path c.args.path.now).keys _ _
+          x.rest (subst (λ l. c.loop-part.part-index < length l) e c.loop-part-test.true) (c.part-item.is ∙ ap (λ l. get_or l c.loop-part.part-index c.part-item.result) e)
+          (c.in_ok-weight.ensures.weight ∙ ap (λ s. keys_on s d k (each_key (c.part-item.result ∷ []))) x.same) c.in_ok-join.ensures;
     }
 
 pub keys-returns : goal.keys-returns
-keys-returns t c =
-    let n = c.args.names.now in let d = c.args.depth in let k = c.args.at.now in
-    record {
-      same = c.loop-part.invariant.same;
-      weight = sym (joined-nothing c.loop-part.all)
-          ∙ ap (λ l. join c.loop-part.all (keys_on n d k (each_key l)))
-          (sym (ap (drop c.loop-part.part-index) (sym c.as_slice-part-items.ensures) ∙ all-past c.as_slice-part-items.result.now c.loop-part.part-index c.loop-part-test.false))
-          ∙ c.loop-part.invariant.rest;
-    }
+keys-returns t c = record {
+  same = c.loop-part.invariant.same;
+  weight = rest-ends (λ l. keys_on c.args.names.now c.args.depth c.args.at.now (each_key l)) refl _ _ (out-Path c.args.path.now).keys _ c.loop-part.invariant.rest
+      (subst (λ l. length l ≤ c.loop-part.part-index) c.as_slice-part-items.ensures c.loop-part-test.false);
+}
 
 pub except-returns-in_default-split_first-clause-weight : goal.except-returns-in_default-split_first-clause-weight
 except-returns-in_default-split_first-clause-weight t c = λ h.
@@ -257,19 +246,18 @@ definitions-loop-def-preserved t c =
 
 pub definitions-returns : goal.definitions-returns
 definitions-returns t c =
-    let d = c.args.depth in let k = c.args.at.now in
-    let end = sym (all-past c.args.defs.now c.loop-def.def-index c.loop-def-test.false) in
+    let d = c.args.depth in let k = c.args.at.now in let x = c.loop-def.invariant in
     record {
-      known = ap (λ l. with_definitions d k (each_def l) c.loop-def.names) end ∙ c.loop-def.invariant.known;
-      weight = sym (joined-nothing c.loop-def.all) ∙ ap (λ l. join c.loop-def.all (bodies_of c.loop-def.names d k (each_def l))) end ∙ c.loop-def.invariant.rest;
+      known = ap (λ l. with_all d k (each_def l) c.loop-def.names) (sym (all-past c.args.defs.now c.loop-def.def-index c.loop-def-test.false)) ∙ x.known;
+      weight = rest-ends (λ l. bodies_of c.loop-def.names d k (each_def l)) refl _ _ c.args.defs.now _ x.rest c.loop-def-test.false;
     }
 
 pub definition-returns : goal.definition-returns
 definition-returns t c =
     let n = c.args.names.now in let d = c.args.depth in let k = c.args.at.now in let x = out-Def c.args.def.now in
-    let bound = c.in_ok-inner.ensures.bound ∙ ap (λ l. with_parameters d l n) c.as_slice.ensures in
+    let bound = c.in_ok-inner.ensures.bound ∙ ap (λ l. with_more d l n) c.as_slice.ensures in
     let inner = c.in_ok-inner.ensures.depth ∙ ap (λ l. d + length l) c.as_slice.ensures in
-    let body = c.in_ok-body.ensures.weight ∙ (λ i. weight_of (bound i) (inner i) k (term_of (c.get.ensures i))) ∙ weigh-with-parameters d x.params n k (term_of x.body) in
+    let body = c.in_ok-body.ensures.weight ∙ (λ i. weight_of (bound i) (inner i) k (term_of (c.get.ensures i))) in
     let before = c.leave.ensures ∙ (λ i. left (c.mark-mark.ensures i) ((c.in_ok-body.ensures.same ∙ bound) i)) ∙ parameters-left d x.params n in
     let known = c.in_ok-known.ensures.known ∙ (λ i. defined d (body i).least (take (inner i) (body i).uses) (has_fault (body i).faults)) in
     record {

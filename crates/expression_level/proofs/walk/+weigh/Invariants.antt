@@ -2,7 +2,7 @@ use Rattle.std.proofs.Common.{◌≡◌, ◌+◌, ◌*◌, ◌++◌, [], ◌∷�
 use Rattle.tla_ast.specs.declared.tree.Path.{out-Path}
 use Rattle.plain_syntax.specs.Syntax.{term_of, terms_of, each_group, each_key, each_def}
 use Rattle.expression_level.specs.Weights.{join}
-use Rattle.expression_level.specs.Scope.{turned, weight_of, weights_of, sets_of, keys_on, bodies_of, with_definitions, updates_on}
+use Rattle.expression_level.specs.Scope.{turned, weight_of, weights_of, sets_of, keys_on, bodies_of, with_all, updates_on}
 use Rattle.expression_level.proofs.walk.+weigh.Given as goal
 
 abbrev pub invariant-weigh-loop-next : goal.invariant-weigh-loop-next
@@ -11,10 +11,11 @@ invariant-weigh-loop-next l = record {
   order : fold (turned l.fn.names l.depth l.at) l.stack.items (map (λ n. term_of n.now) (drop l.next-index l.next-items)) ≡ weight_of l.fn.names l.depth l.at (term_of l.node) ∷ [];
 }
 
-abbrev pub invariant-each-loop-node : goal.invariant-each-loop-node
-invariant-each-loop-node l = record {
+abbrev pub invariant-each-loop-index : goal.invariant-each-loop-index
+invariant-each-loop-index l = record {
   same : l.names ≡ l.fn.names;
-  rest : l.found.items ++ weights_of l.fn.names l.depth l.at (terms_of (map term_of (drop l.node-index l.nodes))) ≡ weights_of l.fn.names l.depth l.at (terms_of (map term_of l.nodes));
+  rest : l.found.items ++ weights_of l.fn.names l.depth l.at (drop l.index l.flags) (terms_of (map term_of (drop l.index l.nodes)))
+      ≡ weights_of l.fn.names l.depth l.at l.flags (terms_of (map term_of l.nodes));
 }
 
 abbrev pub invariant-sets-loop-group : goal.invariant-sets-loop-group
@@ -31,7 +32,7 @@ invariant-keys-loop-part l = record {
 
 abbrev pub invariant-definitions-loop-def : goal.invariant-definitions-loop-def
 invariant-definitions-loop-def l = record {
-  known : with_definitions l.depth l.at (each_def (drop l.def-index l.defs)) l.names ≡ with_definitions l.depth l.at (each_def l.defs) l.fn.names;
+  known : with_all l.depth l.at (each_def (drop l.def-index l.defs)) l.names ≡ with_all l.depth l.at (each_def l.defs) l.fn.names;
   rest : join l.all (bodies_of l.names l.depth l.at (each_def (drop l.def-index l.defs))) ≡ bodies_of l.fn.names l.depth l.at (each_def l.defs);
 }
 
@@ -44,17 +45,11 @@ invariant-except-loop-index l = record {
 abbrev pub decreases-weigh : goal.decreases-weigh
 decreases-weigh l = 5 * goal.size-weigh l + 3
 
-abbrev pub decreases-turn : goal.decreases-turn
-decreases-turn l = 5 * goal.size-turn l + 2
-
 abbrev pub decreases-leaf : goal.decreases-leaf
 decreases-leaf l = 5 * goal.size-leaf l + 1
 
 abbrev pub decreases-each : goal.decreases-each
 decreases-each l = 5 * goal.size-each l + 4
-
-abbrev pub decreases-name : goal.decreases-name
-decreases-name l = 5 * goal.size-name l + 0
 
 abbrev pub decreases-action : goal.decreases-action
 decreases-action l = 5 * goal.size-action l + 0

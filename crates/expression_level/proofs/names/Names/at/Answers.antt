@@ -12,6 +12,6 @@ returns-in-Some c =
 pub returns-in-None : goal.returns-in-None
 returns-in-None c =
     get-found c.get.result c.self.inside.declared.now c.in_ok-number.number c.get.ensures.lookup.0 c.get.ensures.lookup.1
-    ∙ ap (λ s. get_or s.declared c.in_ok-number.number arguments) c.self.view_is
+    ∙ ap (λ s. get_or s.env.declared c.in_ok-number.number arguments) c.self.view_is
     ∙ at-declared c.args.self.now c.at.result c.args.place c.in_ok-number.number (sym c.in_ok-number.was)
     (c.at.ensures ∙ ap (λ s. symbol_at s.symbols c.args.place) c.self.view_is) c.in-None.ensures
