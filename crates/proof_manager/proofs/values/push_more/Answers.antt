@@ -1,6 +1,6 @@
 use Rattle.proof_manager.specs.Report.{name_at}
 use Rattle.proof_manager.proofs.ValueLaws.{more_step}
-use Rattle.proof_manager.proofs.valuation.push_more.Goals as goal
+use Rattle.proof_manager.proofs.values.push_more.Goals as goal
 
 pub loop-i-preserved : goal.loop-i-preserved
 loop-i-preserved c =
