@@ -4,3 +4,4 @@ mod Ways
 mod Envs
 mod Tasks
 mod Nodes
+pub mod CoreFine

@@ -1,5 +1,5 @@
 -- Nodes over the cores of what they hold, form by form.
-use Rattle.std.proofs.Common.{◌≡◌, ◌⊎◌, ℕ, suc, ◌+◌, Bool, List, [], ◌∷◌, ◌++◌, map, length, take, drop, Option, Some, None, IfSome, refl, ap, sym, subst, ◌∙◌, arith}
+use Rattle.std.proofs.Common.{◌≡◌, ◌⊎◌, ℕ, suc, ◌+◌, List, [], ◌∷◌, ◌++◌, map, length, take, drop, Option, Some, None, IfSome, refl, ap, sym, subst, ◌∙◌, arith}
 use Rattle.std.proofs.Math.Seq.{take-append_seam, drop-append_seam}
 use Rattle.tla_ast.specs.declared.place.Place.{Place}
 use Rattle.tla_ast.specs.declared.tree.Node.{Node, out-Node}
@@ -13,7 +13,7 @@ use Rattle.tla_ast.specs.declared.tree.Decl.{Decl}
 use Rattle.core_expr.specs.declared.head.Binder.{Binder}
 use Rattle.core_expr.specs.Tree.{true_}
 use Rattle.tla_ast.specs.declared.tree.Def.{Def}
-use Rattle.plain_syntax.specs.Plain.{Text, Term, Terms, Groups}
+use Rattle.plain_syntax.specs.Plain.{Text, Term, Groups}
 use Rattle.plain_syntax.specs.Syntax.{Held, shape_of, key_of, def_of, group_of, node_of, path_of, term_of, terms_of, each_group, with_domain, set_of, keys_of, except_of, updates_of}
 use Rattle.plain_syntax.proofs.Forms.{held, by-form, parts_in, is-group}
 use Rattle.prime_expand.specs.declared.both.Both.{Both}

@@ -1,26 +1,24 @@
 -- What tasks do, one by one and together.
-use Rattle.std.proofs.Common.{◌≡◌, ℕ, zero, suc, ◌+◌, ◌-◌, List, [], ◌∷◌, ◌++◌, map, length, take, drop, refl, ap, sym, subst, ◌∙◌, arith, append-nil, append_assoc, length-append, slice_index_or, remove, ◌<◌, ◌≤◌}
+use Rattle.std.proofs.Common.{◌≡◌, ℕ, suc, ◌+◌, ◌-◌, List, [], ◌∷◌, ◌++◌, length, take, drop, refl, ap, sym, subst, ◌∙◌, arith, append_assoc, length-append, slice_index_or, remove, ◌<◌, ◌≤◌}
 use Rattle.std.proofs.lemmas.List.{drop_more}
 use Rattle.std.proofs.Math.Seq.{take-append_seam, drop-append_seam}
-use Rattle.tla_ast.specs.declared.tree.Node.{Node, out-Node}
+use Rattle.tla_ast.specs.declared.tree.Node.{Node}
 use Rattle.tla_ast.specs.declared.tree.Form.{Form}
 use Rattle.tla_ast.specs.declared.tree.Form.TheFolds.{fold-roll-Key}
-use Rattle.tla_ast.specs.declared.tree.Form.TheOpen.{Form-F, Key-F}
+use Rattle.tla_ast.specs.declared.tree.Form.TheOpen.{Key-F}
 use Rattle.tla_ast.specs.declared.tree.Path.{Path}
 use Rattle.tla_ast.specs.declared.tree.Key.{Key, out-Key, roll-Key, roll-out-Key}
 use Rattle.tla_ast.specs.declared.tree.Group.{Group}
 use Rattle.tla_ast.specs.declared.tree.Def.{Def}
-use Rattle.plain_syntax.specs.Plain.{Term, Terms, Keys}
+use Rattle.plain_syntax.specs.Plain.{Terms, Keys}
 use Rattle.plain_syntax.specs.Plain.Terms.{part}
 use Rattle.plain_syntax.specs.Plain.Keys.{end_keys}
-use Rattle.plain_syntax.specs.Syntax.{Held, shape_of, key_of, def_of, group_of, node_of, path_of, term_of, terms_of, each_key, key_keys}
+use Rattle.plain_syntax.specs.Syntax.{shape_of, key_of, def_of, group_of, node_of, path_of, term_of, each_key, key_keys}
 use Rattle.prime_expand.specs.declared.both.Both.{Both}
 use Rattle.prime_expand.specs.declared.env.Names.{Names}
-use Rattle.prime_expand.specs.declared.task.Spot.{Spot}
 use Rattle.prime_expand.specs.declared.task.Task.{Task}
-use Rattle.prime_expand.specs.declared.task.Task.TheVariants as task
 use Rattle.prime_expand.specs.Forms.{string}
-use Rattle.prime_expand.specs.Walk.{Point, point, core_from, cores_from, keys_from, taken, run, finish}
+use Rattle.prime_expand.specs.Walk.{Point, core_from, cores_from, keys_from, taken, run, finish}
 
 -- the tasks on top come first
 pub finish-more : (c : Names) (ts us : List Task) (vs : List Both) → finish c (ts ++ us) vs ≡ finish c ts (finish c us vs)
@@ -54,6 +52,7 @@ key-core c q k = subst HasCore (roll-out-Key k) (rolled (out-Key k))
   where
     HasCore : Key → Type 0
     HasCore j = (b : Both) × ((ks : Keys) → keys_from c q (key_keys j ks) ≡ b ∷ keys_from c q ks)
+
     rolled : (x : Key-F Form Key Def Group Node Path) → HasCore (roll-Key x)
     rolled (Key-F.Key::At n) = (core_from c q (term_of n), λ ks. ap (λ (f : Keys → Keys). keys_from c q (f ks)) (fold-roll-Key _ _ _ _ _ _ shape_of key_of def_of group_of node_of path_of (Key-F.Key::At n)))
     rolled (Key-F.Key::Field h) = (string h, λ ks. ap (λ (f : Keys → Keys). keys_from c q (f ks)) (fold-roll-Key _ _ _ _ _ _ shape_of key_of def_of group_of node_of path_of (Key-F.Key::Field h)))

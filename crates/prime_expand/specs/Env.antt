@@ -1,15 +1,12 @@
 -- The environments of the code as lists of what names mean.
-use Rattle.std.specs.Prelude.{ℕ, suc, ◌+◌, ◌-◌, Bool, true, false, if◌then◌else◌, nat_eq, List, [], ◌∷◌, ◌++◌, length, take, drop, map, fold, Option, Some, None}
+use Rattle.std.specs.Prelude.{ℕ, Bool, true, false, if◌then◌else◌, nat_eq, List, [], ◌∷◌, map, fold, Option, Some, None}
 use Rattle.tla_ast.specs.declared.place.Place.{Place}
 use Rattle.tla_ast.specs.declared.tree.Def.{Def, out-Def}
 use Rattle.symbol_table.specs.declared.entry.Entry.{Entry}
 use Rattle.symbol_table.specs.Scoped.{symbol}
 use Rattle.tla_ast.specs.declared.tree.Decl.{Decl}
-use Rattle.plain_syntax.specs.Plain.{Term, Terms, Keys, Groups, Defs}
-use Rattle.tla_ast.specs.declared.tree.Node.{Node}
-use Rattle.tla_ast.specs.declared.tree.Group.{Group, out-Group}
-use Rattle.core_expr.specs.Tree.{true_}
-use Rattle.plain_syntax.specs.Syntax.{term_of, each_def, updates_of}
+use Rattle.plain_syntax.specs.Plain.{Term, Terms, Groups, Defs}
+use Rattle.plain_syntax.specs.Syntax.{term_of, each_def}
 use Rattle.prime_expand.specs.declared.both.Both.{Both}
 use Rattle.prime_expand.specs.declared.env.Names.{Names}
 use Rattle.prime_expand.specs.declared.env.Standing as code
@@ -25,10 +22,10 @@ use Rattle.core_expr.specs.declared.head.Binder.{Binder}
 use Rattle.core_expr.specs.declared.head.Head.TheVariants.{True, And, Or, Apply, Enum, Tuple, FunSet, If}
 use Rattle.core_expr.specs.Terms.{numeral_of}
 use Rattle.plain_syntax.specs.Plain.{Text}
-use Rattle.prime_expand.specs.Both.{same, part_at, seconds, binary, two, three, many, joined, temporal_, quantified, bounded}
-use Rattle.prime_expand.specs.Forms.{string, boxed, angled, along, updated, record_of, records_of, case_of}
+use Rattle.prime_expand.specs.Both.{same, part_at, binary, two, three, many, joined, temporal_}
+use Rattle.prime_expand.specs.Forms.{string, boxed, angled}
 use Rattle.prime_expand.specs.Symbols.{by_prefix, by_infix}
-use Rattle.prime_expand.specs.Core.{Meaning, Env, Standing, at_depth, names_in, used, over, keys, updates, wrapped, core, cores, with_names, with_groups, with_arguments, with_definitions}
+use Rattle.prime_expand.specs.Core.{Meaning, Env, Standing, used, over, core, cores, with_names, with_groups, with_arguments, with_definitions}
 use Rattle.prime_expand.specs.Core.Meaning.{fixed, given}
 
 abbrev pub means : Names → Place → Option ℕ

@@ -4,3 +4,6 @@ pub mod Symbols
 pub mod Core
 pub mod Env
 pub mod Walk
+pub mod Bodies
+pub mod Fine
+pub mod Laws

@@ -91,7 +91,10 @@ impl Comprehension {
 #[derive(Drop)]
 pub enum Task<'a> {
     /// Reads an expression.
-    Read { spot: Spot<'a>, node: &'a Node },
+    Read {
+        spot: Spot<'a>,
+        node: &'a Node,
+    },
     /// Reads a field's name as a key.
     Word(&'a Text),
     /// Makes a node over the last cores, as many as this.
@@ -103,7 +106,10 @@ pub enum Task<'a> {
     /// Takes the first of the last cores, which are as many as this; TRUE where there is none.
     First(usize),
     /// Makes a Filter, Image or Fun over a set and a body, the first of the last cores, which are as many as this.
-    Range { binder: Comprehension, count: usize },
+    Range {
+        binder: Comprehension,
+        count: usize,
+    },
     /// Puts a bound name with a set over a body; the set comes last.
     Bind(Quantifier),
     /// Puts a bound name without a set over a body.
@@ -116,5 +122,8 @@ pub enum Task<'a> {
         count: usize,
     },
     /// Ends an update of a value along keys with the new value.
-    Update { done: Both, keys: Vec<Both> },
+    Update {
+        done: Both,
+        keys: Vec<Both>,
+    },
 }

@@ -71,11 +71,7 @@ fn push_key<'a>(tasks: &mut Vec<Task<'a>>, spot: &Spot<'a>, key: &'a Key) -> Res
 }
 
 /// Reads the keys of a path, the first of them next.
-fn push_keys<'a>(
-    tasks: &mut Vec<Task<'a>>,
-    spot: &Spot<'a>,
-    keys: &'a [Key],
-) -> Result<(), Memory>
+fn push_keys<'a>(tasks: &mut Vec<Task<'a>>, spot: &Spot<'a>, keys: &'a [Key]) -> Result<(), Memory>
     ensures { OnOk result ((names : Names) (vs : List Both) → finish names tasks.new.items vs
         ≡ finish names tasks.old.items (vs ++ keys_from names (point names spot.now) (each_key keys.entry.now))) }
 {
@@ -87,12 +83,7 @@ fn push_keys<'a>(
 
 impl Names<'_> {
     /// A node that is no name over the cores of its parts.
-    fn formed<'a>(
-        &self,
-        spot: &Spot<'a>,
-        node: &'a Node,
-        parts: Vec<Both>,
-    ) -> Result<Both, Memory>
+    fn formed<'a>(&self, spot: &Spot<'a>, node: &'a Node, parts: Vec<Both>) -> Result<Both, Memory>
         ensures { IfOk result (λ b. b ≡ spec.formed self.now (point self.now spot.now) node.entry.now parts.items) }
     {
         let alloc = self.alloc;

@@ -1,4 +1,4 @@
-use Rattle.std.proofs.Common.{rules, ◌≡◌, ◌∷◌, ◌++◌, [], refl, ap, sym, ◌∙◌}
+use Rattle.std.proofs.Common.{◌∷◌, ◌++◌, [], ap, sym, ◌∙◌}
 use Rattle.plain_syntax.specs.Plain.Keys.{end_keys}
 use Rattle.plain_syntax.specs.Syntax.{key_keys, term_of}
 use Rattle.plain_syntax.proofs.Forms.{is-key, is-field-key}

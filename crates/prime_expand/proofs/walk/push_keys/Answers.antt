@@ -1,4 +1,4 @@
-use Rattle.std.proofs.Common.{rules, ◌≡◌, ◌+◌, ◌-◌, ◌∷◌, ◌++◌, [], drop, refl, ap, sym, ◌∙◌, arith}
+use Rattle.std.proofs.Common.{rules, ◌≡◌, ◌-◌, ◌∷◌, ◌++◌, drop, ap, sym, ◌∙◌}
 use Rattle.plain_syntax.specs.Syntax.{each_key}
 use Rattle.prime_expand.specs.Walk.{point, finish, keys_from}
 use Rattle.prime_expand.proofs.Tasks.{key-next, one-more}

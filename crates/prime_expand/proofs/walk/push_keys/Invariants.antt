@@ -8,4 +8,4 @@ use Rattle.prime_expand.proofs.walk.push_keys.Given as goal
 abbrev pub invariant-loop-i : goal.invariant-loop-i
 invariant-loop-i l =
     (names : Names) (vs : List Both) → finish names l.tasks.items vs
-      ≡ finish names l.fn.tasks.items (vs ++ keys_from names (point names l.spot) (each_key (drop l.i l.keys)))
+    ≡ finish names l.fn.tasks.items (vs ++ keys_from names (point names l.spot) (each_key (drop l.i l.keys)))

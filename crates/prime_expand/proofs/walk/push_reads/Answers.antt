@@ -1,4 +1,4 @@
-use Rattle.std.proofs.Common.{rules, ◌≡◌, ◌+◌, ◌-◌, ◌∷◌, ◌++◌, [], map, drop, refl, ap, sym, ◌∙◌, arith}
+use Rattle.std.proofs.Common.{rules, ◌≡◌, ◌-◌, ◌∷◌, ◌++◌, [], map, drop, ap, sym, ◌∙◌}
 use Rattle.plain_syntax.specs.Syntax.{term_of, terms_of}
 use Rattle.prime_expand.specs.Walk.{point, finish, core_from, cores_from}
 use Rattle.prime_expand.proofs.Tasks.{reads-next, one-more}

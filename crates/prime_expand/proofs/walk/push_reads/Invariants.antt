@@ -8,4 +8,4 @@ use Rattle.prime_expand.proofs.walk.push_reads.Given as goal
 abbrev pub invariant-loop-i : goal.invariant-loop-i
 invariant-loop-i l =
     (names : Names) (vs : List Both) → finish names l.tasks.items vs
-      ≡ finish names l.fn.tasks.items (vs ++ cores_from names (point names l.spot) (terms_of (map term_of (drop l.i l.nodes))))
+    ≡ finish names l.fn.tasks.items (vs ++ cores_from names (point names l.spot) (terms_of (map term_of (drop l.i l.nodes))))

@@ -1,4 +1,4 @@
-use Rattle.std.proofs.Common.{◌≡◌, ap, sym, ◌∙◌}
+use Rattle.std.proofs.Common.{ap, sym, ◌∙◌}
 use Rattle.prime_expand.specs.Walk.{finish}
 use Rattle.prime_expand.proofs.Tasks.{finish-more}
 use Rattle.prime_expand.proofs.env.Names.finished.Goals as goal

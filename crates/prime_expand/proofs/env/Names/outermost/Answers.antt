@@ -1,4 +1,4 @@
-use Rattle.std.proofs.Common.{◌≡◌, ap, ◌∙◌}
+use Rattle.std.proofs.Common.{ap, ◌∙◌}
 use Rattle.prime_expand.specs.Env.{env_of, standing_of}
 use Rattle.prime_expand.proofs.Envs.{env-empty}
 use Rattle.prime_expand.proofs.env.Names.outermost.Goals as goal

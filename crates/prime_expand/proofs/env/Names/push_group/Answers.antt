@@ -1,4 +1,4 @@
-use Rattle.std.proofs.Common.{rules, ◌≡◌, ◌+◌, ◌∷◌, ◌++◌, [], suc, length, refl, ap, sym, ◌∙◌, arith, add-one}
+use Rattle.std.proofs.Common.{◌≡◌, ◌+◌, ◌∷◌, ◌++◌, [], suc, ap, sym, ◌∙◌, arith, add-one}
 use Rattle.tla_ast.specs.declared.tree.Group.{out-Group}
 use Rattle.prime_expand.specs.Walk.{quantified_by, point, placed, finish, bound_once, bound_names}
 use Rattle.prime_expand.proofs.Nodes.{one-more-name}

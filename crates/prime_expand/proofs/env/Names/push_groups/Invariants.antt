@@ -8,4 +8,4 @@ abbrev pub invariant-loop-group : goal.invariant-loop-group
 invariant-loop-group l =
     (vs : List Both) (p : Both)
     → finish l.self l.tasks.items (vs ++ bound_groups l.self (placed l.depth (point l.self l.spot)) (quantified_by l.binder) (each_group (drop l.group-index l.groups)) p ∷ [])
-      ≡ finish l.self l.fn.tasks.items (vs ++ bound_groups l.self (point l.self l.spot) (quantified_by l.binder) (each_group l.groups) p ∷ [])
+    ≡ finish l.self l.fn.tasks.items (vs ++ bound_groups l.self (point l.self l.spot) (quantified_by l.binder) (each_group l.groups) p ∷ [])

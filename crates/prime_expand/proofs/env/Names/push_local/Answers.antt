@@ -1,4 +1,4 @@
-use Rattle.std.proofs.Common.{◌≡◌, ◌++◌, map, length, refl, ap, ◌∙◌}
+use Rattle.std.proofs.Common.{◌++◌, map, length, refl, ap, ◌∙◌}
 use Rattle.plain_syntax.specs.Syntax.{term_of, terms_of, each_def}
 use Rattle.prime_expand.specs.Both.{part_at}
 use Rattle.prime_expand.specs.Walk.{point, with_local, finish, cores_from}

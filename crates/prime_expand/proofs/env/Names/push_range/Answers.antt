@@ -31,5 +31,5 @@ returns c vs =
     ∙ ap (λ r. finish s c.push-2.new.self.items ((vs ++ x ∷ []) ++ cores_from s r ts)) c.in_ok-inner.ensures
     ∙ ap (finish s c.push-2.new.self.items) (append_assoc vs (x ∷ []) ys)
     ∙ joins s c.args.tasks.now.items c.push-2.new.self.items _ (length c.as_slice-parts.result.now) (λ bs. ranged (ranged_by c.args.binder) (part_at 0 bs) (part_at 1 bs)) vs (x ∷ ys) _
-        c.in_ok-push-2.ensures.items (λ ws. refl) (ap suc (count-read s (under s p q) c.in-Some.rest.now) ∙ sym (ap length all)) refl
+    c.in_ok-push-2.ensures.items (λ ws. refl) (ap suc (count-read s (under s p q) c.in-Some.rest.now) ∙ sym (ap length all)) refl
     ∙ ap (λ l. finish s c.args.tasks.now.items (vs ++ over_from s q (ranged_by c.args.binder) p (terms_of (map term_of l)) ∷ [])) (sym all ∙ c.as_slice-parts.ensures)

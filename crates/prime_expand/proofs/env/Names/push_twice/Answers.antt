@@ -1,4 +1,4 @@
-use Rattle.std.proofs.Common.{◌≡◌, ◌+◌, ◌∷◌, ◌++◌, [], map, length, refl, ap, sym, ◌∙◌, append_assoc, length-append, add-one}
+use Rattle.std.proofs.Common.{◌+◌, ◌++◌, map, length, refl, ap, ◌∙◌, append_assoc, length-append, add-one}
 use Rattle.plain_syntax.specs.Syntax.{term_of, terms_of}
 use Rattle.prime_expand.specs.Walk.{point, placed, deeper, finish, joined, cores_from}
 use Rattle.prime_expand.proofs.Tasks.{joins}
@@ -18,5 +18,5 @@ returns c vs =
     ∙ (λ i. finish s c.push.new.self.items ((vs ++ cores_from s (c.in_ok-here.ensures s i) ts) ++ cores_from s (inner i) ts))
     ∙ ap (finish s c.push.new.self.items) (append_assoc vs (cores_from s q ts) (cores_from s (deeper q) ts))
     ∙ joins s c.args.tasks.now.items c.push.new.self.items _ (length ps + length ps) (joined s q n) vs (cores_from s q ts ++ cores_from s (deeper q) ts) _
-        c.in_ok-push.ensures.items (λ ws. refl) (length-append (cores_from s q ts) (cores_from s (deeper q) ts) ∙ (λ i. count-read s q ps i + count-read s (deeper q) ps i))
-        (ap (λ m. joined s q n (cores_from s q (terms_of (map term_of m)) ++ cores_from s (deeper q) (terms_of (map term_of m)))) c.as_slice-parts.ensures)
+    c.in_ok-push.ensures.items (λ ws. refl) (length-append (cores_from s q ts) (cores_from s (deeper q) ts) ∙ (λ i. count-read s q ps i + count-read s (deeper q) ps i))
+    (ap (λ m. joined s q n (cores_from s q (terms_of (map term_of m)) ++ cores_from s (deeper q) (terms_of (map term_of m)))) c.as_slice-parts.ensures)

@@ -1,4 +1,4 @@
-use Rattle.std.proofs.Common.{◌≡◌, ◌∷◌, ◌++◌, [], map, length, refl, ap, ◌∙◌, add-one}
+use Rattle.std.proofs.Common.{◌++◌, map, length, refl, ap, ◌∙◌, add-one}
 use Rattle.plain_syntax.specs.Syntax.{term_of, terms_of}
 use Rattle.prime_expand.specs.Walk.{point, placed, deeper, finish, joined, cores_from}
 use Rattle.prime_expand.proofs.Tasks.{joins}
@@ -15,5 +15,5 @@ returns c vs =
     c.in_ok-push_reads.ensures s vs
     ∙ ap (λ r. finish s c.push.new.self.items (vs ++ cores_from s r (terms_of (map term_of ps)))) inner
     ∙ joins s c.args.tasks.now.items c.push.new.self.items _ (length ps) (joined s q n) vs (cores_from s (deeper q) (terms_of (map term_of ps))) _
-        c.in_ok-push.ensures.items (λ ws. refl) (count-read s (deeper q) ps)
-        (ap (λ m. joined s q n (cores_from s (deeper q) (terms_of (map term_of m)))) c.as_slice-parts.ensures)
+    c.in_ok-push.ensures.items (λ ws. refl) (count-read s (deeper q) ps)
+    (ap (λ m. joined s q n (cores_from s (deeper q) (terms_of (map term_of m)))) c.as_slice-parts.ensures)

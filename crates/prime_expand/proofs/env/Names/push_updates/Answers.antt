@@ -1,8 +1,6 @@
-use Rattle.std.proofs.Common.{rules, ◌≡◌, ◌+◌, ◌-◌, ◌∷◌, ◌++◌, [], inl, inr, map, length, drop, refl, ap, sym, ◌∙◌, arith}
+use Rattle.std.proofs.Common.{◌∷◌, ◌++◌, [], inr, length, drop, ap, sym, arith}
 use Rattle.std.proofs.lemmas.List.{drop_all}
-use Rattle.plain_syntax.specs.Syntax.{term_of, keys_of, updates_of}
-use Rattle.prime_expand.specs.Walk.{point, finish, updates_from}
-use Rattle.prime_expand.proofs.Tasks.{one-more}
+use Rattle.prime_expand.specs.Walk.{point, finish}
 use Rattle.prime_expand.proofs.Nodes.{no-update}
 use Rattle.prime_expand.proofs.env.Names.push_updates.Goals as goal
 

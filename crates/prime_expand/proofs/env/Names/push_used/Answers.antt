@@ -1,5 +1,4 @@
-use Rattle.std.proofs.Common.{rules, ◌≡◌, ◌∷◌, ◌++◌, [], None, Some, ap, sym, ◌∙◌}
-use Rattle.tla_ast.specs.declared.tree.Def.{out-Def}
+use Rattle.std.proofs.Common.{◌≡◌, ◌∷◌, ◌++◌, [], None, Some, ap, sym, ◌∙◌}
 use Rattle.plain_syntax.specs.Syntax.{term_of}
 use Rattle.prime_expand.specs.Symbols.{head_in, values}
 use Rattle.prime_expand.specs.Core.{lookup}
@@ -23,8 +22,8 @@ returns c =
     let none : head_in values c.args.word.now ≡ None = sym c.value.ensures.head ∙ c.in_default.is in
     let number : means s c.args.place ≡ Some c.in-Some-symbol.number = sym c.symbol.ensures ∙ c.in-Some-symbol.is in
     let local : lookup e c.in-Some-symbol.number ≡ Some (given (applied_def s d b a r)) =
-        ap (λ v. lookup (env_of s v) c.in-Some-symbol.number) (sym c.deref.ensures) ∙ sym c.find.ensures ∙ ap (meaning s) c.in-Definition.is in
+    ap (λ v. lookup (env_of s v) c.in-Some-symbol.number) (sym c.deref.ensures) ∙ sym c.find.ensures ∙ ap (meaning s) c.in-Definition.is in
     reads-last s c.args.tasks.now.items c.push-in-Definition.new.self.items _ (in_body s d b a r c.args.spot.depth c.args.args.items) n c.args.cores.now.items c.in_ok-push-in-Definition.ensures.items
-      (λ ws. ap (λ q. ws ++ core_from s q (term_of n) ∷ []) c.in_ok-spot-in-Definition.ensures)
+    (λ ws. ap (λ q. ws ++ core_from s q (term_of n) ∷ []) c.in_ok-spot-in-Definition.ensures)
     ∙ ap (λ m. old (c.args.cores.now.items ++ core_from s (in_body s d b a r c.args.spot.depth c.args.args.items) (term_of m) ∷ [])) c.get.ensures
     ∙ ap (λ x. old (c.args.cores.now.items ++ x ∷ [])) (sym (used-local s c.args.word.now e c.args.place c.args.spot.depth c.in-Some-symbol.number c.args.args.items (applied_def s d b a r) none number local))
