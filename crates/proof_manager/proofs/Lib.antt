@@ -1,4 +1,5 @@
 pub mod WordLaws
-pub mod Told
 pub mod ValueLaws
 pub mod LineLaws
+pub mod Walks
+pub mod Meant

@@ -27,6 +27,7 @@ pub struct Judged {
 }
 
 /// Answers a theorem: appends its lines, and whether it is proved.
+#[tactic(auto, using(crate::proofs::LineLaws::lines_are))]
 fn judge_theorem(
     alloc: Global,
     lines: &mut Lines,

@@ -1,12 +1,12 @@
 //! What the modules state, as far as it is answered.
 
-ghost use Rattle.std.specs.Prelude.{◌≡◌, map, option_map, IfOk, OnSome};
+ghost use Rattle.std.specs.Prelude.{◌≡◌, ◌∷◌, ◌++◌, [], map, IfOk, OnOk, OnSome};
 ghost use Rattle.std.specs.List.{All, list_any};
 ghost use Rattle.std.specs.Option.{option_to_list};
 ghost use Rattle.core_expr.specs.Flat.{rows_of};
-ghost use Rattle.plain_syntax.specs.Syntax.{item_of, term_of, proof_of, kind_of, module_of};
-ghost use Rattle.proof_manager.specs.Causes.{AreStatements, Answers, IsStatement};
+ghost use Rattle.plain_syntax.specs.Syntax.{item_of, term_of, proof_of, kind_of, unit_of, module_of};
 ghost use Rattle.proof_manager.specs.Outline as spec;
+ghost use Rattle.proof_manager.specs.Causes.{AreStatements, Answers, IsStatement};
 
 use core_expr::{Expr, Memory, RowKind, Text};
 use module_scope::resolve;
@@ -179,8 +179,17 @@ fn unit_theorem(home: &Home, unit: &Unit) -> Result<Option<Theorem>, ScopeFault>
     }
 }
 
+/// Appends a theorem, if there is one.
+fn push_some(theorems: &mut Items<Theorem>, theorem: Option<Theorem>) -> Result<(), Memory>
+    ensures { OnOk result (theorems.new ≡ theorems.old ++ option_to_list theorem) }
+{
+    if let Some(theorem) = theorem {
+        theorems.push(theorem)?;
+    }
+    Ok(())
+}
+
 /// The theorems of the units of a module, or the refusal of its first unit of another form.
-#[tactic(auto, using(crate::proofs::Walks::unit_added, crate::proofs::Walks::all_added))]
 fn theorems_of(home: &Home, units: &[Unit]) -> Result<Items<Theorem>, ScopeFault>
     ensures value { Answers (λ ts. ts) result
         (spec.unit_theorems home.scoped.now home.number home.name.now (map unit_of units.now)) }
@@ -188,9 +197,8 @@ fn theorems_of(home: &Home, units: &[Unit]) -> Result<Items<Theorem>, ScopeFault
 {
     let mut theorems = Items::new(home.alloc);
     for unit in units {
-        if let Some(theorem) = unit_theorem(home, unit)? {
-            theorems.push(theorem)?;
-        }
+        let found = unit_theorem(home, unit)?;
+        push_some(&mut theorems, found)?;
     }
     Ok(theorems)
 }
@@ -230,7 +238,8 @@ fn chapters_of(
 {
     let mut chapters = Items::new(alloc);
     for i in 0..modules.len() {
-        chapters.push(chapter_of(alloc, scoped, i as u64, &modules[i])?)?;
+        let chapter = chapter_of(alloc, scoped, i as u64, &modules[i])?;
+        chapters.push(chapter)?;
     }
     Ok(chapters)
 }
