@@ -134,6 +134,14 @@ Answers view (Ok a) defined = defined ≡ Ok (view a)
 Answers view (Err fault.Memory) defined = Unit {0}
 Answers view (Err (fault.At owner place kind)) defined = defined ≡ Err (fault.At owner place kind)
 
+-- how the reading of the modules ends, where the shelf tells what it holds
+abbrev pub Loads : Result Outline LoadFault → Option Folder → Bytes → Type 0
+Loads (Ok o) told root = WhereTold told (λ folder. IsRead folder root o)
+Loads (Err (load.NotFound name)) told root = WhereTold told (λ folder. reading folder root ≡ Err (load.NotFound name))
+Loads (Err (load.Refused owner place kind)) told root = WhereTold told (λ folder. reading folder root ≡ Err (load.Refused owner place kind))
+Loads (Err load.ReadFault) told root = Unit {0}
+Loads (Err load.Memory) told root = Unit {0}
+
 -- what the writing of the report leaves
 abbrev pub Writes : Status → Outline → Option Bytes → Option Bytes → Type 0
 Writes status.AllProved o old new = (all_hold o ≡ true) × TakesReport o old new
@@ -141,10 +149,3 @@ Writes status.NotAll o old new = (all_hold o ≡ false) × TakesReport o old new
 Writes status.WriteFault o old new = TakesPart o old new
 Writes status.Memory o old new = Unit {0}
 Writes _ o old new = ⊥
-
--- the status of a loading that stops
-abbrev pub IsStop : LoadFault → Status → Type 0
-IsStop (load.NotFound name) s = s ≡ status.NotFound name
-IsStop (load.Refused owner place kind) s = s ≡ status.Refused owner place kind
-IsStop load.ReadFault s = s ≡ status.ReadFault
-IsStop load.Memory s = s ≡ status.Memory

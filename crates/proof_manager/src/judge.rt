@@ -125,7 +125,8 @@ pub fn judge(alloc: Global, outline: &Outline) -> Result<Judged, Memory>
         mut report,
         verdicts,
     } = lines;
-    let proved = count_true(verdicts.as_slice());
+    let verdicts = verdicts.as_slice();
+    let proved = count_true(verdicts);
     push_count(&mut report, verdicts.len(), proved)?;
     Ok(Judged {
         report,

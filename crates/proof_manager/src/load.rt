@@ -1,9 +1,9 @@
 //! The modules that are to be answered.
 
 ghost use Rattle.std.specs.Prelude.{◌≡◌, IfOk};
-ghost use Rattle.module_shelf.specs.Causes.{Ends, LoadCause, WhereTold};
-ghost use Rattle.proof_manager.specs.Causes.{AreStatements};
-ghost use Rattle.proof_manager.specs.Outline.{load_fault, reading};
+ghost use Rattle.module_shelf.specs.Causes.{LoadCause};
+ghost use Rattle.proof_manager.specs.Causes.{AreStatements, Loads};
+ghost use Rattle.proof_manager.specs.Outline.{load_fault};
 
 use crate::outline::{Outline, outline_of};
 use core_expr::Text;
@@ -32,8 +32,7 @@ fn as_load_fault(fault: ScopeFault) -> LoadFault
 
 /// Loads a module and those that it extends, and reads what they say.
 pub fn read<S: Shelf>(alloc: Global, shelf: &mut S, root: &Text) -> Result<Outline, LoadFault>
-    ensures told { WhereTold (S.folder shelf.old)
-        (λ folder. Ends (λ o. o) result (reading folder root.now)) }
+    ensures told { Loads result (S.folder shelf.old) root.now }
     ensures statements { IfOk result (λ o. AreStatements o.chapters) }
     ensures cause { LoadCause result (S.count shelf.old) (S.count shelf.new) }
     ensures kept { S.folder shelf.new ≡ S.folder shelf.old }

@@ -1,6 +1,6 @@
 //! What the modules state, as far as it is answered.
 
-ghost use Rattle.std.specs.Prelude.{◌≡◌, ◌∷◌, ◌++◌, [], map, IfOk, OnOk, OnSome};
+ghost use Rattle.std.specs.Prelude.{◌≡◌, ◌∷◌, ◌++◌, [], map, IfOk, OnOk};
 ghost use Rattle.std.specs.List.{All, list_any};
 ghost use Rattle.std.specs.Option.{option_to_list};
 ghost use Rattle.core_expr.specs.Flat.{rows_of};
@@ -84,7 +84,7 @@ fn is_answered(scoped: &Scoped, e: &Expr) -> bool
 /// The theorem, where what it states is answered.
 fn if_answered(scoped: &Scoped, theorem: Theorem) -> Option<Theorem>
     ensures value { result ≡ spec.if_answered scoped.now.entries theorem }
-    ensures statement { OnSome result (IsStatement theorem) }
+    ensures statement { All IsStatement (option_to_list result) }
 {
     let _ = theorem.statement.length();
     if is_answered(scoped, &theorem.statement) {
@@ -124,7 +124,7 @@ fn theorem_of(
     leaf: Option<Place>,
 ) -> Result<Option<Theorem>, Memory>
     ensures value { IfOk result (λ o. o
-        ≡ spec.theorem_of home.scoped.now home.number place name.now (map item_of items.now)
+        ≡ spec.theorem_of home.now.scoped.now home.now.number place name.now (map item_of items.now)
         (term_of goal.now) leaf) }
     ensures statement { IfOk result (λ o. All IsStatement (option_to_list o)) }
 {
@@ -145,7 +145,7 @@ fn theorem_of(
 
 /// The refusal of what is not built yet.
 fn left_out(home: &Home, place: Place) -> Result<ScopeFault, Memory>
-    ensures { IfOk result (λ e. e ≡ spec.form home.name.now place) }
+    ensures { IfOk result (λ e. e ≡ spec.form home.now.name.now place) }
 {
     Ok(ScopeFault::At {
         module: Text::of(home.alloc, home.name.bytes())?,
@@ -157,7 +157,7 @@ fn left_out(home: &Home, place: Place) -> Result<ScopeFault, Memory>
 /// The theorem of a unit, if it is one; or the refusal of a unit of another form.
 fn unit_theorem(home: &Home, unit: &Unit) -> Result<Option<Theorem>, ScopeFault>
     ensures value { Answers option_to_list result
-        (spec.by_kind home.scoped.now home.number home.name.now unit.now.place
+        (spec.by_kind home.now.scoped.now home.now.number home.now.name.now unit.now.place
         (kind_of unit.now.kind)) }
     ensures statement { IfOk result (λ o. All IsStatement (option_to_list o)) }
 {
@@ -192,7 +192,7 @@ fn push_some(theorems: &mut Items<Theorem>, theorem: Option<Theorem>) -> Result<
 /// The theorems of the units of a module, or the refusal of its first unit of another form.
 fn theorems_of(home: &Home, units: &[Unit]) -> Result<Items<Theorem>, ScopeFault>
     ensures value { Answers (λ ts. ts) result
-        (spec.unit_theorems home.scoped.now home.number home.name.now (map unit_of units.now)) }
+        (spec.unit_theorems home.now.scoped.now home.now.number home.now.name.now (map unit_of units.now)) }
     ensures statements { IfOk result (λ ts. All IsStatement ts) }
 {
     let mut theorems = Items::new(home.alloc);
@@ -237,8 +237,8 @@ fn chapters_of(
     ensures statements { IfOk result (λ cs. AreStatements cs) }
 {
     let mut chapters = Items::new(alloc);
-    for i in 0..modules.len() {
-        let chapter = chapter_of(alloc, scoped, i as u64, &modules[i])?;
+    for module in modules {
+        let chapter = chapter_of(alloc, scoped, chapters.len() as u64, module)?;
         chapters.push(chapter)?;
     }
     Ok(chapters)

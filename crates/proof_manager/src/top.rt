@@ -4,7 +4,7 @@ ghost use Rattle.std.specs.Prelude.{◌≡◌};
 ghost use Rattle.std.specs.List.{All};
 ghost use Rattle.proof_manager.specs.Words.{named_by};
 ghost use Rattle.proof_manager.specs.Run.{theorems_of};
-ghost use Rattle.proof_manager.specs.Causes.{AreStatements, IsStop, IsJust, IsDecided, WordsCause, ReportCause, Justified, Decided, ShelfCause, SinkCause, IsUnwritten, IsUntouched, Writes};
+ghost use Rattle.proof_manager.specs.Causes.{AreStatements, IsJust, IsDecided, WordsCause, ReportCause, Justified, Decided, ShelfCause, SinkCause, IsUnwritten, IsUntouched, Writes};
 
 use crate::judge::judge;
 use crate::load::read;
@@ -17,26 +17,6 @@ use module_shelf::LoadFault;
 use seq_calculus::substitution;
 use std::alloc::Global;
 use tla_io::{CacheFile, Shelf, Sink, write_whole};
-
-/// The status of a loading that stops.
-fn stopped(fault: LoadFault) -> Status
-    ensures { IsStop fault result }
-{
-    match fault {
-        LoadFault::NotFound(name) => Status::NotFound { name },
-        LoadFault::Refused {
-            module,
-            place,
-            kind,
-        } => Status::Refused {
-            module,
-            place,
-            kind,
-        },
-        LoadFault::ReadFault => Status::ReadFault,
-        LoadFault::Memory => Status::Memory,
-    }
-}
 
 /// What answers mean, for each theorem of the modules.
 #[tactic(auto, using(crate::proofs::Meant::all_just, crate::proofs::Meant::all_decided))]
@@ -107,11 +87,24 @@ pub fn run<S: Shelf, C: CacheFile, K: Sink>(
     let Some(name) = root(words.as_slice()) else {
         return Status::Words;
     };
-    let Ok(name) = Text::of(alloc, name.as_bytes()) else {
+    let Ok(root) = Text::of(alloc, name.as_bytes()) else {
         return Status::Memory;
     };
-    match read(alloc, shelf, &name) {
+    match read(alloc, shelf, &root) {
         Ok(outline) => answer(alloc, &outline, out),
-        Err(fault) => stopped(fault),
+        Err(LoadFault::NotFound(name)) => Status::NotFound { name },
+        Err(
+            LoadFault::Refused {
+                module,
+                place,
+                kind,
+            },
+        ) => Status::Refused {
+            module,
+            place,
+            kind,
+        },
+        Err(LoadFault::ReadFault) => Status::ReadFault,
+        Err(LoadFault::Memory) => Status::Memory,
     }
 }
