@@ -3,7 +3,6 @@ use Rattle.std.specs.Prelude.{◌≡◌, ℕ, Bool, true, false, ◌&&◌, not, 
 use Rattle.std.specs.List.{All, list_any}
 use Rattle.std.proofs.Common.{refl, ap, sym, ◌∙◌}
 use Rattle.std.proofs.lemmas.List.Elements.{All-nil, All-cons}
-use Rattle.core_expr.specs.Tree.{Tree}
 use Rattle.core_expr.specs.Flat.{rows_of}
 use Rattle.core_expr.specs.Heads.{IsWellFormed}
 use Rattle.tla_ast.specs.declared.place.Place.{Place}

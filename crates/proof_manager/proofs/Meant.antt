@@ -1,9 +1,7 @@
 -- What answers mean, for all theorems of modules.
-use Rattle.std.specs.Prelude.{◌≡◌, true, List, [], ◌∷◌, ◌++◌, flat_map, Option}
+use Rattle.std.specs.Prelude.{List, [], ◌∷◌}
 use Rattle.std.specs.List.{All}
 use Rattle.std.proofs.lemmas.List.Elements.{All-nil, All-append, All-head, All-tail}
-use Rattle.core_expr.specs.declared.head.Sym.{Sym}
-use Rattle.core_expr.specs.Tree.{Tree}
 use Rattle.seq_calculus.specs.Laws.{Substitution}
 use Rattle.formula_answer.specs.Laws.{ProvedDerives, ProvedIsValid, SaturatedFalsifies, SaturatedRefutes, FewConnectivesEnd, FewConnectivesDecideForm, FewConnectivesDecide}
 use Rattle.proof_manager.specs.declared.outline.Theorem.{Theorem}

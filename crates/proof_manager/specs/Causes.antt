@@ -3,8 +3,6 @@ use Rattle.std.specs.Prelude.{◌≡◌, ◌↔◌, ℕ, ◌≤◌, ◌<◌, Boo
 use Rattle.std.specs.List.{All}
 use Rattle.tla_io.specs.Causes.{Rose}
 use Rattle.tla_io.specs.Told.{Bytes, Folder, with_more}
-use Rattle.tla_ast.specs.declared.place.Place.{Place}
-use Rattle.tla_ast.specs.declared.fault.Kind.{Kind}
 use Rattle.seq_calculus.specs.Calculus.{Der}
 use Rattle.tableau_definition.specs.Propositional.{Falsifies, by_number, connectives}
 use Rattle.propositional_search.specs.declared.search.Answer.TheVariants.{Saturated, Spent}

@@ -1,4 +1,4 @@
-use Rattle.std.proofs.Common.{◌≡◌, ◌∙◌, ◌++◌, ap, nat_eq, map, flat_map, count_by, length}
+use Rattle.std.proofs.Common.{◌∙◌, ◌++◌, ap, nat_eq, map, flat_map, count_by, length}
 use Rattle.proof_manager.specs.Report.{count_line}
 use Rattle.proof_manager.specs.Run.{holds, chapter_lines}
 use Rattle.proof_manager.proofs.LineLaws.{report_is, all_proved}

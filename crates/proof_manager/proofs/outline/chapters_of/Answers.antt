@@ -1,8 +1,7 @@
-use Rattle.std.proofs.Common.{◌≡◌, ◌∙◌, ◌+◌, ℕ, [], ◌∷◌, ap, sym, subst, map, drop}
+use Rattle.std.proofs.Common.{◌∙◌, [], ◌∷◌, ap, sym}
 use Rattle.plain_syntax.specs.Syntax.{module_of}
-use Rattle.proof_manager.specs.Outline.{each, chapter_of}
-use Rattle.proof_manager.specs.Causes.{Answers}
-use Rattle.proof_manager.proofs.Walks.{behind, behind-nothing, each-next, each-stops, each-ends, passed-on}
+use Rattle.proof_manager.specs.Outline.{chapter_of}
+use Rattle.proof_manager.proofs.Walks.{each-stops, each-ends, passed-on}
 use Rattle.proof_manager.proofs.outline.chapters_of.Goals as goal
 
 pub returns-in_err-chapter-clause-value : goal.returns-in_err-chapter-clause-value

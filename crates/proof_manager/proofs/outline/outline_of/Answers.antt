@@ -1,4 +1,4 @@
-use Rattle.std.proofs.Common.{◌∙◌, ap, map}
+use Rattle.std.proofs.Common.{ap, map}
 use Rattle.plain_syntax.specs.Syntax.{module_of}
 use Rattle.module_scope.specs.Resolution.{resolution}
 use Rattle.proof_manager.specs.Outline.{outline_of, outlined}
