@@ -1,4 +1,8 @@
 pub mod WordLaws
-pub mod Told
 pub mod ValueLaws
 pub mod LineLaws
+pub mod Walks
+pub mod Nodes
+pub mod Forms
+pub mod Readings
+pub mod Meant

@@ -3,7 +3,7 @@ use Rattle.std.specs.Prelude.{◌≡◌, ℕ, zero, suc, ◌+◌, ◌<◌, Bool,
 use Rattle.std.proofs.Common.{ap, sym, ◌∙◌, arith, get_or, append_assoc, append-nil}
 use Rattle.proof_manager.specs.Report.{Bytes, value_text, more_values}
 
-pub more_next : (n : ℕ → Bytes) (ps : List ℕ) (vs : List Bool) (i d : ℕ) (c : Bool) → i < length ps → length vs ≡ length ps
+pub more_next : {A : Type 0} (n : A → Bytes) (ps : List A) (vs : List Bool) (i : ℕ) (d : A) (c : Bool) → i < length ps → length vs ≡ length ps
     → more_values (map n (take (suc i) ps)) (take (suc i) vs) ≡ more_values (map n (take i ps)) (take i vs) ++ (codes ", " ++ value_text (n (get_or ps i d)) (get_or vs i c))
 more_next n [] vs i d c l e = absurd (omega arith)
 more_next n (p ∷ ps) [] i d c l e = absurd (omega arith)
@@ -12,7 +12,7 @@ more_next n (p ∷ ps) (v ∷ vs) (suc i) d c l e =
     ap (λ rest. codes ", " ++ value_text (n p) v ++ rest) (more_next n ps vs i d c (omega arith) (omega arith))
     ∙ sym (append_assoc (codes ", " ++ value_text (n p) v) (more_values (map n (take i ps)) (take i vs)) (codes ", " ++ value_text (n (get_or ps i d)) (get_or vs i c)))
 
-pub more_step : (n : ℕ → Bytes) (ps : List ℕ) (vs : List Bool) (i d : ℕ) (c : Bool) (start old new : Bytes) → i < length ps → length vs ≡ length ps
+pub more_step : {A : Type 0} (n : A → Bytes) (ps : List A) (vs : List Bool) (i : ℕ) (d : A) (c : Bool) (start old new : Bytes) → i < length ps → length vs ≡ length ps
     → old ≡ start ++ more_values (map n (take i ps)) (take i vs) → new ≡ old ++ (codes ", " ++ value_text (n (get_or ps i d)) (get_or vs i c)) → new ≡ start ++ more_values (map n (take (i + 1) ps)) (take (i + 1) vs)
 more_step n ps vs i d c start old new l e o w =
     let k : i + 1 ≡ suc i = omega arith in

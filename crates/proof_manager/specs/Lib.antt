@@ -1,4 +1,5 @@
 pub mod Words
+pub mod Outline
 pub mod Report
 pub mod Status
 pub mod Run

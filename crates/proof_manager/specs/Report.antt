@@ -1,10 +1,15 @@
--- The report of a run on a module.
-use Rattle.std.specs.Prelude.{ℕ, Bool, true, false, List, [], ◌∷◌, ◌++◌, Option, Some, None, codes, decimal, map, slice_index_or}
+-- The report of a run.
+use Rattle.std.specs.Prelude.{ℕ, Bool, true, false, List, [], ◌∷◌, ◌++◌, Option, Some, None, codes, decimal}
 use Rattle.tla_ast.specs.declared.place.Place.{Place}
 use Rattle.propositional_search.specs.declared.search.Answer.{Answer}
 use Rattle.propositional_search.specs.declared.search.Answer.TheVariants.{Proved, Saturated, Spent}
-use Rattle.propositional_module.specs.declared.theorem.Theorem.{Theorem}
-use Rattle.propositional_answer.specs.Answer.{is_proved}
+use Rattle.core_expr.specs.declared.head.Sym.{Sym}
+use Rattle.core_expr.specs.declared.head.SymKind.{SymKind}
+use Rattle.core_expr.specs.declared.head.SymKind.TheVariants as sym
+use Rattle.symbol_table.specs.declared.entry.Entry.{Entry}
+use Rattle.symbol_table.specs.Scoped.{entry_of}
+use Rattle.formula_answer.specs.Answer.{is_proved}
+use Rattle.proof_manager.specs.declared.outline.Theorem.{Theorem}
 
 abbrev pub Bytes : Type 0
 Bytes = List ℕ
@@ -25,6 +30,16 @@ name_text (Some name) = name
 abbrev pub truth_text : Bool → Bytes
 truth_text true = codes "TRUE"
 truth_text false = codes "FALSE"
+
+-- what is printed behind the name of a symbol
+abbrev pub prime_text : SymKind → Bytes
+prime_text sym.Primed = codes "'"
+prime_text sym.DefinedPrimed = codes "'"
+prime_text _ = []
+
+-- a symbol's name, with `'` where it is primed
+abbrev pub symbol_text : List Entry → Sym → Bytes
+symbol_text es s = (entry_of es s.number).name ++ prime_text s.kind
 
 -- a symbol's name and its value
 abbrev pub value_text : Bytes → Bool → Bytes
@@ -67,11 +82,3 @@ theorem_lines t names answer = theorem_line t answer ++ leaf_line t names answer
 -- the last line
 abbrev pub count_line : ℕ → ℕ → Bytes
 count_line theorems proved = line (decimal theorems ++ codes " theorems, " ++ decimal proved ++ codes " proved")
-
--- the name at a place, from 0, among these
-abbrev pub name_at : List Bytes → ℕ → Bytes
-name_at names place = slice_index_or names place []
-
--- the names at these places
-abbrev pub names_at : List Bytes → List ℕ → List Bytes
-names_at names places = map (name_at names) places

@@ -1,15 +1,23 @@
-//! From a module to its report.
+//! From modules to their report.
 
-ghost use Rattle.std.specs.Prelude.{◌≡◌, ◌++◌, ◌≤◌, count_by, flat_map, length, IfOk, OnOk};
-ghost use Rattle.std.specs.List.{All};
-ghost use Rattle.propositional_module.specs.Laws.{IsWhole};
-ghost use Rattle.proof_manager.specs.Run.{all_hold, holds, lines_of, report_of};
+ghost use Rattle.std.specs.Prelude.{◌≡◌, ◌∷◌, ◌++◌, [], count_by, flat_map, map, IfOk, OnOk};
+ghost use Rattle.std.specs.List.{All, list_all};
+ghost use Rattle.proof_manager.specs.Causes.{AreStatements, IsStatement};
+ghost use Rattle.proof_manager.specs.Run.{all_hold, chapter_lines, holds, lines_of, report_of, theorems_of};
 
+use crate::outline::{Chapter, Outline, Theorem};
 use crate::report::{push_count, push_header, push_theorem};
-use core_expr::{Memory, Text};
-use propositional_answer::{answer_to, is_proved};
-use propositional_module::{PropositionalModule, Theorem};
+use core_expr::Memory;
+use formula_answer::{answer_to, is_proved};
 use std::alloc::Global;
+use symbol_table::Scoped;
+
+/// The lines so far, and for each theorem in them whether it is proved.
+#[derive(Drop)]
+struct Lines {
+    report: Vec<u8>,
+    verdicts: Vec<bool>,
+}
 
 /// A report that is ready to be written, and whether every theorem is proved.
 #[derive(Drop)]
@@ -18,58 +26,110 @@ pub struct Judged {
     pub all_proved: bool,
 }
 
-/// Answers a theorem, and appends its lines; whether it is proved.
+/// Answers a theorem: appends its lines, and whether it is proved.
+#[tactic(auto, using(crate::proofs::LineLaws::lines_are))]
 fn judge_theorem(
     alloc: Global,
-    out: &mut Vec<u8>,
-    constants: &[Text],
+    lines: &mut Lines,
+    scoped: &Scoped,
     theorem: &Theorem,
-) -> Result<bool, Memory>
-    requires { IsWhole theorem.now.goal }
-    ensures lines { OnOk result (out.new.items
-        ≡ out.old.items ++ lines_of constants.now theorem.now) }
-    ensures proved { IfOk result (λ b. b ≡ holds theorem.now) }
+) -> Result<(), Memory>
+    requires { IsStatement theorem.now }
+    ensures lines { OnOk result (lines.new.report.items
+        ≡ lines.old.report.items ++ lines_of scoped.now.entries theorem.now) }
+    ensures verdicts { OnOk result (lines.new.verdicts.items
+        ≡ lines.old.verdicts.items ++ holds theorem.now ∷ []) }
 {
-    let answered = answer_to(alloc, theorem.goal.as_slice())?;
-    push_theorem(out, constants, theorem, &answered)?;
-    Ok(is_proved(&answered.answer))
+    let answered = answer_to(alloc, &theorem.statement)?;
+    push_theorem(&mut lines.report, scoped, theorem, &answered)?;
+    lines.verdicts.push(is_proved(&answered.answer))?;
+    Ok(())
 }
 
-/// Answers the theorems in order, and appends their lines; how many are proved.
+/// Answers the theorems in order.
 fn judge_theorems(
     alloc: Global,
-    out: &mut Vec<u8>,
-    constants: &[Text],
+    lines: &mut Lines,
+    scoped: &Scoped,
     theorems: &[Theorem],
-) -> Result<usize, Memory>
-    requires { All (λ t. IsWhole t.goal) theorems.now }
-    ensures lines { OnOk result (out.new.items
-        ≡ out.old.items ++ flat_map (lines_of constants.now) theorems.now) }
-    ensures count { IfOk result (λ n. n ≡ count_by holds theorems.now) }
-    ensures within { IfOk result (λ n. n ≤ length theorems.now) }
+) -> Result<(), Memory>
+    requires { All IsStatement theorems.now }
+    ensures lines { OnOk result (lines.new.report.items
+        ≡ lines.old.report.items ++ flat_map (lines_of scoped.now.entries) theorems.now) }
+    ensures verdicts { OnOk result (lines.new.verdicts.items
+        ≡ lines.old.verdicts.items ++ map holds theorems.now) }
 {
-    let mut proved = 0;
     for theorem in theorems {
-        proved += usize::from(judge_theorem(alloc, out, constants, theorem)?);
+        judge_theorem(alloc, lines, scoped, theorem)?;
     }
-    Ok(proved)
+    Ok(())
 }
 
-/// Answers the theorems of a module, and makes the report.
-#[tactic(auto, unfolding(crate::specs::Run::report_of))]
-pub fn judge(alloc: Global, name: &[u8], parsed: &PropositionalModule) -> Result<Judged, Memory>
-    requires { All (λ t. IsWhole t.goal) parsed.now.theorems }
-    ensures report { IfOk result (λ j. j.report.items ≡ report_of name.now parsed.now) }
-    ensures proved { IfOk result (λ j. j.all_proved ≡ all_hold parsed.now.theorems) }
+/// Answers the theorems of a module: appends its lines, and which theorems are proved.
+fn judge_chapter(
+    alloc: Global,
+    lines: &mut Lines,
+    scoped: &Scoped,
+    chapter: &Chapter,
+) -> Result<(), Memory>
+    requires { All IsStatement chapter.now.theorems }
+    ensures lines { OnOk result (lines.new.report.items
+        ≡ lines.old.report.items ++ chapter_lines scoped.now.entries chapter.now) }
+    ensures verdicts { OnOk result (lines.new.verdicts.items
+        ≡ lines.old.verdicts.items ++ map holds chapter.now.theorems) }
 {
-    let constants = parsed.constants.as_slice();
-    let theorems = parsed.theorems.as_slice();
-    let mut report = Vec::new(alloc);
-    push_header(&mut report, name)?;
-    let proved = judge_theorems(alloc, &mut report, constants, theorems)?;
-    push_count(&mut report, theorems.len(), proved)?;
+    push_header(&mut lines.report, chapter.name.bytes())?;
+    judge_theorems(alloc, lines, scoped, chapter.theorems.as_slice())
+}
+
+/// Answers the theorems of the modules in order.
+fn judge_chapters(
+    alloc: Global,
+    lines: &mut Lines,
+    scoped: &Scoped,
+    chapters: &[Chapter],
+) -> Result<(), Memory>
+    requires { AreStatements chapters.now }
+    ensures lines { OnOk result (lines.new.report.items
+        ≡ lines.old.report.items ++ flat_map (chapter_lines scoped.now.entries) chapters.now) }
+    ensures verdicts { OnOk result (lines.new.verdicts.items
+        ≡ lines.old.verdicts.items ++ flat_map (λ c. map holds c.theorems) chapters.now) }
+{
+    for chapter in chapters {
+        judge_chapter(alloc, lines, scoped, chapter)?;
+    }
+    Ok(())
+}
+
+/// How many are true.
+fn count_true(verdicts: &[bool]) -> usize
+    ensures { result ≡ count_by (λ v. v) verdicts.now }
+{
+    verdicts.iter().filter(|verdict| **verdict).count()
+}
+
+/// Answers the theorems of all modules, and makes the report.
+#[tactic(auto, unfolding(crate::specs::Run::report_of))]
+pub fn judge(alloc: Global, outline: &Outline) -> Result<Judged, Memory>
+    requires { AreStatements outline.now.chapters }
+    ensures report { IfOk result (λ j. j.report.items ≡ report_of outline.now) }
+    ensures proved { IfOk result (λ j. j.all_proved ≡ all_hold outline.now) }
+{
+    let mut lines = Lines {
+        report: Vec::new(alloc),
+        verdicts: Vec::new(alloc),
+    };
+    let chapters = outline.chapters.as_slice();
+    judge_chapters(alloc, &mut lines, &outline.scoped, chapters)?;
+    let Lines {
+        mut report,
+        verdicts,
+    } = lines;
+    let verdicts = verdicts.as_slice();
+    let proved = count_true(verdicts);
+    push_count(&mut report, verdicts.len(), proved)?;
     Ok(Judged {
         report,
-        all_proved: proved == theorems.len(),
+        all_proved: proved == verdicts.len(),
     })
 }

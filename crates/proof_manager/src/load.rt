@@ -1,60 +1,45 @@
-//! The module that is to be answered.
+//! The modules that are to be answered.
 
 ghost use Rattle.std.specs.Prelude.{◌≡◌, IfOk};
-ghost use Rattle.std.specs.List.{All};
-ghost use Rattle.propositional_module.specs.Laws.{IsWhole};
-ghost use Rattle.proof_manager.specs.Causes.{Reads, Loads, LoadCause};
+ghost use Rattle.module_shelf.specs.Causes.{LoadCause};
+ghost use Rattle.proof_manager.specs.Causes.{AreStatements, Loads};
+ghost use Rattle.proof_manager.specs.Outline.{load_fault};
 
-use propositional_module::{PropositionalModule, front_decides, goals_are_whole, read};
+use crate::outline::{Outline, outline_of};
+use core_expr::Text;
+use module_shelf::LoadFault;
 use std::alloc::Global;
-use tla_ast::{Fault, Kind, Place};
-use tla_io::{Shelf, ShelfFault};
+use tla_ast::ScopeFault;
+use tla_io::Shelf;
 
-/// Why there is no module to answer.
-#[derive(Debug, Drop)]
-pub enum LoadFault {
-    /// The shelf has no such module.
-    NotFound,
-    /// The module's text has this as its first fault.
-    Refused { place: Place, kind: Kind },
-    /// The shelf failed.
-    ReadFault,
-    /// Memory was not found.
-    Memory,
-}
-
-/// More bytes than a module may have.
-const AT_MOST: u64 = 1048577;
-
-/// Reads a module's text.
-fn read_text(alloc: Global, name: &str, text: &[u8]) -> Result<PropositionalModule, LoadFault>
-    ensures text { Reads result name.now text.now }
-    ensures whole { IfOk result (λ m. All (λ t. IsWhole t.goal) m.theorems) }
+/// The fault of names, or the refusal of a form, as one of the loading.
+fn as_load_fault(fault: ScopeFault) -> LoadFault
+    ensures { result ≡ load_fault fault }
 {
-    goals_are_whole();
-    match read(alloc, text, name.as_bytes()) {
-        Ok(parsed) => Ok(parsed),
-        Err(Fault::At { place, kind }) => Err(LoadFault::Refused { place, kind }),
-        Err(Fault::Memory) => Err(LoadFault::Memory),
+    match fault {
+        ScopeFault::Memory => LoadFault::Memory,
+        ScopeFault::At {
+            module,
+            place,
+            kind,
+        } => LoadFault::Refused {
+            module,
+            place,
+            kind,
+        },
     }
 }
 
-/// Fetches a module and reads its text.
-pub fn load<S: Shelf>(
-    alloc: Global,
-    shelf: &mut S,
-    name: &str,
-) -> Result<PropositionalModule, LoadFault>
-    ensures told { Loads result (S.folder shelf.old) name.now }
-    ensures whole { IfOk result (λ m. All (λ t. IsWhole t.goal) m.theorems) }
+/// Loads a module and those that it extends, and reads what they say.
+pub fn read<S: Shelf>(alloc: Global, shelf: &mut S, root: &Text) -> Result<Outline, LoadFault>
+    ensures told { Loads result (S.folder shelf.old) root.now }
+    ensures statements { IfOk result (λ o. AreStatements o.chapters) }
     ensures cause { LoadCause result (S.count shelf.old) (S.count shelf.new) }
     ensures kept { S.folder shelf.new ≡ S.folder shelf.old }
 {
-    front_decides();
-    match shelf.fetch(alloc, name, AT_MOST) {
-        Err(ShelfFault::Failed) => Err(LoadFault::ReadFault),
-        Err(ShelfFault::Memory) => Err(LoadFault::Memory),
-        Ok(None) => Err(LoadFault::NotFound),
-        Ok(Some(text)) => read_text(alloc, name, text.as_slice()),
+    let loaded = module_shelf::load(alloc, shelf, root, None)?;
+    match outline_of(alloc, &loaded) {
+        Ok(outline) => Ok(outline),
+        Err(fault) => Err(as_load_fault(fault)),
     }
 }

@@ -1,16 +1,17 @@
 //! The lines of a report.
 
-ghost use Rattle.std.specs.Prelude.{◌≡◌, ◌++◌, length, codes, decimal, OnOk};
-ghost use Rattle.propositional_answer.specs.Answer.{HasValues, is_proved};
-ghost use Rattle.proof_manager.specs.Report.{names_at, line, place_text, name_text, status_text, valuation_text, verdict_text, theorem_line, leaf_line, theorem_lines, count_line};
+ghost use Rattle.std.specs.Prelude.{◌≡◌, ◌++◌, length, map, codes, decimal, OnOk};
+ghost use Rattle.formula_answer.specs.Answer.{HasValues, is_proved};
+ghost use Rattle.proof_manager.specs.Report.{symbol_text, line, place_text, name_text, status_text, valuation_text, verdict_text, theorem_line, leaf_line, theorem_lines, count_line};
 
+use crate::outline::Theorem;
 use crate::status::push_number;
-use crate::valuation::push_valuation;
-use core_expr::Text;
-use propositional_answer::{Answered, is_proved};
-use propositional_module::Theorem;
+use crate::values::push_valuation;
+use core_expr::{Sym, Text};
+use formula_answer::{Answered, is_proved};
 use propositional_search::Answer;
 use std::alloc::AllocError;
+use symbol_table::Scoped;
 use tla_ast::Place;
 
 /// Appends a line that begins with the first text and goes on with the second.
@@ -54,37 +55,37 @@ fn push_turns(out: &mut Vec<u8>, verdict: &[u8], turns: u64) -> Result<(), Alloc
 /// Appends what is printed of a saturated answer.
 fn push_saturated(
     out: &mut Vec<u8>,
-    constants: &[Text],
-    places: &[u64],
+    scoped: &Scoped,
+    order: &[Sym],
     values: &[bool],
     turns: u64,
 ) -> Result<(), AllocError>
-    requires { length values.now ≡ length places.now }
+    requires { length values.now ≡ length order.now }
     ensures { OnOk result (out.new.items
         ≡ out.old.items ++ (codes "saturated, " ++ decimal turns ++ codes " turns" ++ codes ": "
-        ++ valuation_text (names_at constants.now places.now) values.now)) }
+        ++ valuation_text (map (symbol_text scoped.now.entries) order.now) values.now)) }
 {
     push_turns(out, b"saturated, ", turns)?;
     out.extend_from_slice(b": ")?;
-    push_valuation(out, constants, places, values)
+    push_valuation(out, scoped, order, values)
 }
 
 /// Appends what is printed of an answer.
 fn push_verdict(
     out: &mut Vec<u8>,
-    constants: &[Text],
-    places: &[u64],
+    scoped: &Scoped,
+    order: &[Sym],
     answer: &Answer,
 ) -> Result<(), AllocError>
-    requires { HasValues (length places.now) answer.now }
+    requires { HasValues (length order.now) answer.now }
     ensures { OnOk result (out.new.items
-        ≡ out.old.items ++ verdict_text (names_at constants.now places.now) answer.now) }
+        ≡ out.old.items ++ verdict_text (map (symbol_text scoped.now.entries) order.now) answer.now) }
 {
     match answer {
         Answer::Proved { turns } => push_turns(out, b"proved, ", *turns),
         Answer::Spent { turns } => push_turns(out, b"spent, ", *turns),
         Answer::Saturated { values, turns } => {
-            push_saturated(out, constants, places, values.as_slice(), *turns)
+            push_saturated(out, scoped, order, values.as_slice(), *turns)
         }
     }
 }
@@ -112,36 +113,36 @@ fn push_theorem_line(
 /// Appends the line of a leaf.
 fn push_leaf_line(
     out: &mut Vec<u8>,
-    constants: &[Text],
+    scoped: &Scoped,
     theorem: &Theorem,
     answered: &Answered,
 ) -> Result<(), AllocError>
     requires { HasValues (length answered.now.order.items) answered.now.answer }
     ensures { OnOk result (out.new.items
         ≡ out.old.items ++ leaf_line theorem.now
-        (names_at constants.now answered.now.order.items) answered.now.answer) }
+        (map (symbol_text scoped.now.entries) answered.now.order.items) answered.now.answer) }
 {
     out.extend_from_slice(b"  leaf ")?;
     push_place(out, theorem.leaf)?;
     out.extend_from_slice(b" ")?;
-    push_verdict(out, constants, answered.order.as_slice(), &answered.answer)?;
+    push_verdict(out, scoped, answered.order.as_slice(), &answered.answer)?;
     out.extend_from_slice(b"\n")
 }
 
 /// Appends the lines of a theorem with this answer.
 pub fn push_theorem(
     out: &mut Vec<u8>,
-    constants: &[Text],
+    scoped: &Scoped,
     theorem: &Theorem,
     answered: &Answered,
 ) -> Result<(), AllocError>
     requires { HasValues (length answered.now.order.items) answered.now.answer }
     ensures { OnOk result (out.new.items
         ≡ out.old.items ++ theorem_lines theorem.now
-        (names_at constants.now answered.now.order.items) answered.now.answer) }
+        (map (symbol_text scoped.now.entries) answered.now.order.items) answered.now.answer) }
 {
     push_theorem_line(out, theorem, &answered.answer)?;
-    push_leaf_line(out, constants, theorem, answered)
+    push_leaf_line(out, scoped, theorem, answered)
 }
 
 /// Appends the first line.

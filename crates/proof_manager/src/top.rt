@@ -2,67 +2,47 @@
 
 ghost use Rattle.std.specs.Prelude.{◌≡◌};
 ghost use Rattle.std.specs.List.{All};
-ghost use Rattle.propositional_module.specs.Laws.{IsWhole};
 ghost use Rattle.proof_manager.specs.Words.{named_by};
-ghost use Rattle.proof_manager.specs.Causes.{IsAbsence, IsRefusal, IsJust, IsDecided, WordsCause, ReportCause, Justified, Decided, ShelfCause, SinkCause, IsUnwritten, IsUntouched, Writes};
+ghost use Rattle.proof_manager.specs.Run.{theorems_of};
+ghost use Rattle.proof_manager.specs.Causes.{AreStatements, IsJust, IsDecided, WordsCause, ReportCause, Justified, Decided, ShelfCause, SinkCause, IsUnwritten, IsUntouched, Writes};
 
 use crate::judge::judge;
-use crate::load::{LoadFault, load};
+use crate::load::read;
+use crate::outline::Outline;
 use crate::status::Status;
 use crate::words::root;
 use core_expr::Text;
-use propositional_answer::{few_connectives_are_decided, proved_holds, saturated_falsifies};
-use propositional_module::PropositionalModule;
+use formula_answer::{few_connectives_are_decided, proved_holds, saturated_falsifies};
+use module_shelf::LoadFault;
+use seq_calculus::substitution;
 use std::alloc::Global;
-use tla_ast::{Kind, Place};
 use tla_io::{CacheFile, Shelf, Sink, write_whole};
 
-/// The status of a module that is not there.
-fn not_found(alloc: Global, name: &str) -> Status
-    ensures { IsAbsence result name.now }
-{
-    match Text::of(alloc, name.as_bytes()) {
-        Ok(name) => Status::NotFound { name },
-        Err(_) => Status::Memory,
-    }
-}
-
-/// The status of a module whose text has a fault.
-fn refused(alloc: Global, name: &str, place: Place, kind: Kind) -> Status
-    ensures { IsRefusal result name.now place kind }
-{
-    match Text::of(alloc, name.as_bytes()) {
-        Ok(module) => Status::Refused {
-            module,
-            place,
-            kind,
-        },
-        Err(_) => Status::Memory,
-    }
-}
-
-/// What answers mean, for each theorem of a module.
-fn theorems_are_just(parsed: &PropositionalModule)
-    ensures just { All IsJust parsed.now.theorems }
-    ensures decided { All IsDecided parsed.now.theorems }
+/// What answers mean, for each theorem of the modules.
+#[tactic(auto, using(crate::proofs::Meant::all_just, crate::proofs::Meant::all_decided))]
+fn theorems_are_just(outline: &Outline)
+    requires { AreStatements outline.now.chapters }
+    ensures just { All IsJust (theorems_of outline.now.chapters) }
+    ensures decided { All IsDecided (theorems_of outline.now.chapters) }
 {
     proved_holds();
+    substitution();
     saturated_falsifies();
     few_connectives_are_decided();
-    let _parsed = parsed;
+    let _outline = outline;
 }
 
 /// Answers the theorems and writes the report.
-fn answer<K: Sink>(alloc: Global, name: &str, parsed: &PropositionalModule, out: &mut K) -> Status
-    requires { All (λ t. IsWhole t.goal) parsed.now.theorems }
-    ensures report { Writes result name.now parsed.now (K.taken out.old) (K.taken out.new) }
-    ensures just { All IsJust parsed.now.theorems }
-    ensures decided { All IsDecided parsed.now.theorems }
+fn answer<K: Sink>(alloc: Global, outline: &Outline, out: &mut K) -> Status
+    requires { AreStatements outline.now.chapters }
+    ensures report { Writes result outline.now (K.taken out.old) (K.taken out.new) }
+    ensures just { All IsJust (theorems_of outline.now.chapters) }
+    ensures decided { All IsDecided (theorems_of outline.now.chapters) }
     ensures sink { SinkCause result (K.count out.old) (K.count out.new) }
     ensures unwritten { IsUnwritten result out.old out.new }
 {
-    theorems_are_just(parsed);
-    let Ok(judged) = judge(alloc, name.as_bytes(), parsed) else {
+    theorems_are_just(outline);
+    let Ok(judged) = judge(alloc, outline) else {
         return Status::Memory;
     };
     if write_whole(out, judged.report.as_slice()).is_err() {
@@ -75,8 +55,8 @@ fn answer<K: Sink>(alloc: Global, name: &str, parsed: &PropositionalModule, out:
     }
 }
 
-/// All that the program does: reads the module that the words name, answers its theorems by the written search and writes
-/// the report. The words are the program's name and the module's, which may end in `.tla`. The cache is not used.
+/// All that the program does: loads the module that the words name and those that it extends, answers their theorems by the
+/// written search and writes the report. The words are the program's name and the module's, which may end in `.tla`. The cache is not used.
 pub fn run<S: Shelf, C: CacheFile, K: Sink>(
     alloc: Global,
     words: &Vec<String>,
@@ -89,11 +69,12 @@ pub fn run<S: Shelf, C: CacheFile, K: Sink>(
     ensures shelf_uncalled { IsUntouched result shelf.old shelf.new }
     ensures cache_uncalled { cache.new ≡ cache.old }
 
-    // What the status says of the module's text and of the report.
+    // What the status says of the modules, with their first fault, and of the report.
     ensures report { ReportCause result (S.folder shelf.old) (named_by words.now.items)
         (K.taken out.old) (K.taken out.new) }
 
-    // Of each theorem: a proof has its derivation, a printed valuation falsifies, and few connectives are decided.
+    // Of each theorem: a proof has its derivation, as its full expansion has, a printed valuation falsifies, and few connectives
+    // are decided.
     ensures answers_justified { Justified result (S.folder shelf.old) (named_by words.now.items) }
     ensures small_decided { Decided result (S.folder shelf.old) (named_by words.now.items) }
 
@@ -106,11 +87,24 @@ pub fn run<S: Shelf, C: CacheFile, K: Sink>(
     let Some(name) = root(words.as_slice()) else {
         return Status::Words;
     };
-    match load(alloc, shelf, name) {
-        Err(LoadFault::NotFound) => not_found(alloc, name),
-        Err(LoadFault::Refused { place, kind }) => refused(alloc, name, place, kind),
+    let Ok(root) = Text::of(alloc, name.as_bytes()) else {
+        return Status::Memory;
+    };
+    match read(alloc, shelf, &root) {
+        Ok(outline) => answer(alloc, &outline, out),
+        Err(LoadFault::NotFound(name)) => Status::NotFound { name },
+        Err(
+            LoadFault::Refused {
+                module,
+                place,
+                kind,
+            },
+        ) => Status::Refused {
+            module,
+            place,
+            kind,
+        },
         Err(LoadFault::ReadFault) => Status::ReadFault,
         Err(LoadFault::Memory) => Status::Memory,
-        Ok(parsed) => answer(alloc, name, &parsed, out),
     }
 }

@@ -7,10 +7,10 @@ use std::process::Abort;
 use std::test::Fail;
 use tla_io::{MemCache, MemShelf, MemSink};
 
-/// One run: the module M of the shelf has this text, the calls listed fail, and the words are the program's and this one.
+/// One run: the modules of the shelf by name and text, the calls that fail, and the word behind the program's.
 #[derive(Drop)]
 struct Case<'a> {
-    text: &'a [u8],
+    modules: &'a [(&'a str, &'a str)],
     word: &'a str,
     shelf_fails: &'a [u64],
     room: u64,
@@ -28,7 +28,10 @@ fn ran(alloc: Global, case: &Case) -> Result<Outcome, Fail> {
     words.push(String::from_str(alloc, "tla_prove")?)?;
     words.push(String::from_str(alloc, case.word)?)?;
     let mut entries = Vec::new(alloc);
-    entries.push((Text::of(alloc, b"M")?, Vec::from_slice(alloc, case.text)?))?;
+    for (name, text) in case.modules {
+        let name = Text::of(alloc, name.as_bytes())?;
+        entries.push((name, Vec::from_slice(alloc, text.as_bytes())?))?;
+    }
     let mut shelf = MemShelf::new(entries, Vec::from_slice(alloc, case.shelf_fails)?);
     let mut cache = MemCache::new(Text::of(alloc, b"f")?, Vec::new(alloc), Vec::new(alloc));
     let mut sink = MemSink::new(alloc, case.room, 7, Vec::new(alloc))?;
@@ -49,24 +52,33 @@ const IMPLIES_ITSELF: &str = "---- MODULE M ----\nCONSTANT A\nTHEOREM T == A => 
 const THREE: &str =
     "---- MODULE M ----\nCONSTANTS A, B, C\nTHEOREM T == C => A \\/ C OBVIOUS\nTHEOREM U == C /\\ A => B OBVIOUS\n  THEOREM FALSE OBVIOUS\n====";
 
-/// What runs on these texts under the name M write, or say on standard error, each with its status.
+/// What a run on these modules, of which M is the root, writes or says on standard error, with its status.
+fn compare_modules(
+    rt: &impl Abort,
+    alloc: Global,
+    what: &str,
+    modules: &[(&str, &str)],
+    code: u8,
+    want: &str,
+) -> Result<(), Fail> {
+    let case = Case {
+        modules,
+        word: "M",
+        shelf_fails: &[],
+        room: 400,
+    };
+    let (got_code, taken, said) = shown(alloc, &case)?;
+    let (taken_want, said_want) = if code < 2 { (want, "") } else { ("", want) };
+    assert_eq!(rt; got_code, code, "{what}");
+    assert_eq!(rt; taken.as_slice(), taken_want.as_bytes(), "{what}");
+    assert_eq!(rt; said.bytes(), said_want.as_bytes(), "{what}");
+    Ok(())
+}
+
+/// The same of texts under the name M.
 fn compare(rt: &impl Abort, alloc: Global, table: &[(&str, &str, u8, &str)]) -> Result<(), Fail> {
     for (what, text, code, want) in table {
-        let case = Case {
-            text: text.as_bytes(),
-            word: "M",
-            shelf_fails: &[],
-            room: 400,
-        };
-        let (got_code, taken, said) = shown(alloc, &case)?;
-        assert_eq!(rt; got_code, *code, "{what}");
-        if *code < 2 {
-            assert_eq!(rt; taken.as_slice(), want.as_bytes(), "{what}");
-            assert_eq!(rt; said.bytes(), b"".as_slice(), "{what}");
-        } else {
-            assert_eq!(rt; taken.as_slice(), b"".as_slice(), "{what}");
-            assert_eq!(rt; said.bytes(), want.as_bytes(), "{what}");
-        }
+        compare_modules(rt, alloc, what, &[("M", *text)], *code, want)?;
     }
     Ok(())
 }
@@ -108,6 +120,12 @@ fn each_report_is_of_all_theorems(rt: HostRuntime) -> Result<(), Fail> {
                 "module M\ntheorem T 3:1 unproved\n  leaf 6:3 saturated, 1 turns: A = FALSE, B = FALSE, C = FALSE\n1 theorems, 0 proved\n",
             ),
             (
+                "a variable and its prime",
+                "---- MODULE M ----\nVARIABLE x\nTHEOREM x' => x OBVIOUS\n====",
+                1,
+                "module M\ntheorem - 3:1 unproved\n  leaf 3:17 saturated, 1 turns: x' = TRUE, x = FALSE\n1 theorems, 0 proved\n",
+            ),
+            (
                 "a proved theorem, one with a valuation and one without a name and without symbols",
                 THREE,
                 1,
@@ -129,7 +147,7 @@ fn each_refusal_has_its_place_and_kind(rt: HostRuntime) -> Result<(), Fail> {
                 "a form that is not built",
                 "---- MODULE M ----\nCONSTANTS A, B\nTHEOREM A /\\ B => A OBVIOUS\nTHEOREM A = B OBVIOUS\n====",
                 3,
-                "refused M 4:11 Unsupported form",
+                "refused M 4:1 Unsupported form",
             ),
             (
                 "implication does not associate",
@@ -153,7 +171,13 @@ fn each_refusal_has_its_place_and_kind(rt: HostRuntime) -> Result<(), Fail> {
                 "union twice is read",
                 "---- MODULE M ----\nCONSTANTS a, b, c\nTHEOREM a \\cup b \\cup c = a OBVIOUS\n====",
                 3,
-                "refused M 3:11 Unsupported form",
+                "refused M 3:1 Unsupported form",
+            ),
+            (
+                "a name that is not declared",
+                "---- MODULE M ----\nTHEOREM A => A OBVIOUS\n====",
+                3,
+                "refused M 2:9 Unknown A",
             ),
             (
                 "a number that is too large",
@@ -162,6 +186,33 @@ fn each_refusal_has_its_place_and_kind(rt: HostRuntime) -> Result<(), Fail> {
                 "refused M 2:14 NumberTooLarge",
             ),
         ],
+    )
+}
+
+#[test]
+fn extended_modules_are_answered(rt: HostRuntime) -> Result<(), Fail> {
+    let root = "---- MODULE M ----\nEXTENDS A\nTHEOREM T == a => b OBVIOUS\n====";
+    let middle = "---- MODULE A ----\nEXTENDS B\nCONSTANT a\nTHEOREM b => b OBVIOUS\n====";
+    let last = "---- MODULE B ----\nCONSTANT b\n====";
+    compare_modules(
+        &rt,
+        rt.alloc(),
+        "a chain of modules",
+        &[("M", root), ("A", middle), ("B", last)],
+        1,
+        "module B\nmodule A\ntheorem - 4:1 proved\n  leaf 4:16 proved, 2 turns\nmodule M\ntheorem T 3:1 unproved\n  leaf 3:21 saturated, 1 turns: a = TRUE, b = FALSE\n2 theorems, 1 proved\n",
+    )?;
+    compare_modules(
+        &rt,
+        rt.alloc(),
+        "an assumption of an extended module",
+        &[
+            ("M", root),
+            ("A", middle),
+            ("B", "---- MODULE B ----\nCONSTANT b\nASSUME b\n===="),
+        ],
+        3,
+        "refused B 3:1 Unsupported form",
     )
 }
 
@@ -210,7 +261,7 @@ fn devices_and_words_decide(rt: HostRuntime) -> Result<(), Fail> {
     ];
     for (word, shelf_fails, room, code, taken, text) in &table {
         let case = Case {
-            text: IMPLIES_ITSELF.as_bytes(),
+            modules: &[("M", IMPLIES_ITSELF)],
             word: *word,
             shelf_fails: *shelf_fails,
             room: *room,

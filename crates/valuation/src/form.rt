@@ -22,8 +22,9 @@ fn is_connective(kind: RowKind, parts: u64) -> bool
     }
 }
 
-/// Whether an expression is a propositional formula.
-fn is_formula(e: &Expr) -> bool
+/// Whether an expression is a propositional formula: built of TRUE, FALSE, symbols without arguments and the five connectives.
+/// Takes time linear in its nodes, and no memory.
+pub fn is_formula(e: &Expr) -> bool
     ensures { result ≡ is_propositional e.now }
 {
     for i in 0..e.length() {

@@ -1,0 +1,5 @@
+---- MODULE A ----
+CONSTANT a
+THEOREM a => a OBVIOUS
+ASSUME a
+====

@@ -1,0 +1,5 @@
+---- MODULE A ----
+EXTENDS B
+CONSTANTS a, b
+THEOREM a => a \/ c OBVIOUS
+====

@@ -1,0 +1,3 @@
+---- MODULE B ----
+CONSTANT c
+====

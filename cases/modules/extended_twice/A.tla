@@ -1,0 +1,3 @@
+---- MODULE A ----
+EXTENDS B
+====

@@ -1,0 +1,4 @@
+---- MODULE M ----
+EXTENDS A, B
+THEOREM c <=> c OBVIOUS
+====

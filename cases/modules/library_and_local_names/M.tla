@@ -1,0 +1,4 @@
+---- MODULE M ----
+EXTENDS Naturals, A
+THEOREM T == Nat /\ (LET L == n IN L' /\ ~L) => n OBVIOUS
+====

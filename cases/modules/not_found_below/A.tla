@@ -1,0 +1,3 @@
+---- MODULE A ----
+EXTENDS Sequences, Absent
+====

@@ -1,0 +1,4 @@
+---- MODULE M ----
+EXTENDS A
+THEOREM U == a => c OBVIOUS
+====

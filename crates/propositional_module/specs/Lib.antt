@@ -1,9 +1,0 @@
-pub mod Faults
-pub mod Units
-pub mod Terms
-pub mod Formulas
-pub mod Statement
-pub mod Module
-pub mod Grammar
-pub mod Kept
-pub mod Laws
