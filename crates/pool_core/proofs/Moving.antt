@@ -8,7 +8,7 @@ use Rattle.pool_core.specs.declared.worker.Worker.{Worker}
 use Rattle.pool_core.specs.Numbers.{times}
 use Rattle.pool_core.specs.States.{shown, jobs_in, HasRoom, CanNote, Draws, Moves}
 use Rattle.pool_core.specs.Machine as machine
-use Rattle.pool_core.proofs.Lists.{times_append, answer_jobs, no_longer, job_of}
+use Rattle.pool_core.proofs.Lists.{pick, times_append, answer_jobs, no_longer, job_of}
 
 -- a number below the last is taken
 pub takes : (jobs next : ℕ) (v w : Worker) → HasRoom jobs next v → next < jobs → w.drawn.items ≡ v.drawn.items ++ machine.mark next false ∷ [] → vec_capacity w.drawn ≡ vec_capacity v.drawn → w.noted ≡ v.noted → w.seen ≡ v.seen → w.ended ≡ v.ended
@@ -34,10 +34,6 @@ takes jobs next v w h lt items cap noted seen ended =
       ended = λ _. ended;
       ends = λ le. absurd (omega arith);
     }
-  where
-    pick : (b : Bool) (x y : machine.Worker) → b ≡ true → cond b x y ≡ x
-    pick true x y e = refl
-    pick false x y e = absurd (cc)
 
 -- room stays where the jobs of the marks do
 same_room : (v w : Worker) → jobs_in w.drawn.items ≡ jobs_in v.drawn.items → vec_capacity w.drawn ≡ vec_capacity v.drawn → w.noted ≡ v.noted → (jobs next : ℕ) → HasRoom jobs next v → HasRoom jobs next w
