@@ -14,9 +14,7 @@ use Rattle.pool_core.proofs.Lists.{pick, times_append, answer_jobs, no_longer, j
 pub takes : (jobs next : ℕ) (v w : Worker) → HasRoom jobs next v → next < jobs → w.drawn.items ≡ v.drawn.items ++ machine.mark next false ∷ [] → vec_capacity w.drawn ≡ vec_capacity v.drawn → w.noted ≡ v.noted → w.seen ≡ v.seen → w.ended ≡ v.ended
     → Draws jobs next v w
 takes jobs next v w h lt items cap noted seen ended =
-    let one = machine.mark next false ∷ [] in
-    let a = h.room in
-    let b = h.short in
+    let one = machine.mark next false ∷ [] in let a = h.room in let b = h.short in
     let c = ap (λ (l : List Mark). length l) items ∙ length-append v.drawn.items one in
     record {
       shows = (λ i. machine.worker (items i) (noted i).items (seen i) (ended i)) ∙ sym (pick (nat_lt next jobs) _ _ (grind arith));
@@ -25,9 +23,7 @@ takes jobs next v w h lt items cap noted seen ended =
         noted_room = let d = h.noted_room in let e = ap vec_capacity noted in omega arith;
         own = λ x.
             let more = ap (λ l. times x (jobs_in l)) items ∙ ap (times x) (map-append job_of v.drawn.items one) ∙ times_append x (jobs_in v.drawn.items) (next ∷ []) in
-            let was = h.own x in
-            let same = ap (λ u. times x u.items) noted in
-            omega arith;
+            let was = h.own x in let same = ap (λ u. times x u.items) noted in omega arith;
         short = omega arith;
         below = omega arith;
       };
@@ -38,8 +34,7 @@ takes jobs next v w h lt items cap noted seen ended =
 -- room stays where the jobs of the marks do
 same_room : (v w : Worker) → jobs_in w.drawn.items ≡ jobs_in v.drawn.items → vec_capacity w.drawn ≡ vec_capacity v.drawn → w.noted ≡ v.noted → (jobs next : ℕ) → HasRoom jobs next v → HasRoom jobs next w
 same_room v w jobs cap noted all next h =
-    let a = h.short in
-    let b = h.below in
+    let a = h.short in let b = h.below in
     let len : length w.drawn.items ≡ length v.drawn.items = sym (length-map w.drawn.items job_of) ∙ ap (λ (l : List ℕ). length l) jobs ∙ length-map v.drawn.items job_of in
     record {
       room = let c = h.room in omega arith;
@@ -92,24 +87,20 @@ module _ (j : ℕ) (v : Worker) (h : CanNote v) (drawn : machine.has_drawn j v.d
     where
       more : times x (v.noted.items ++ j ∷ []) ≡ times x v.noted.items + times x (j ∷ [])
       more = times_append x v.noted.items (j ∷ [])
+
       cases : (b : Bool) → (j == x) ≡ b → times x (v.noted.items ++ j ∷ []) ≤ times x (jobs_in v.drawn.items)
       cases true e =
           let same : j ≡ x = grind arith in
           let some = subst (λ k. 0 < times k (jobs_in v.drawn.items)) same (drawn_times j v.drawn.items drawn) in
-          let none = subst (λ k. times k v.noted.items ≡ 0) same (noted_times j v.noted.items fresh) in
-          let one = ap one_of e in
-          let sum = more in
-          omega arith
+          let none = subst (λ k. times k v.noted.items ≡ 0) same (noted_times j v.noted.items fresh) in let one = ap one_of e in
+          let sum = more in omega arith
       cases false e = let was = h.own x in let one = ap one_of e in let sum = more in omega arith
 
   -- a job that is noted finds room
   pub note_fits : length v.noted.items < vec_capacity v.noted
   note_fits =
       let most = no_longer (v.noted.items ++ j ∷ []) (jobs_in v.drawn.items) own_after in
-      let a = length-append v.noted.items (j ∷ []) in
-      let b = length-map v.drawn.items job_of in
-      let c = h.room in
-      omega arith
+      let a = length-append v.noted.items (j ∷ []) in let b = length-map v.drawn.items job_of in let c = h.room in omega arith
 
   -- a job is noted
   pub notes : (w : Worker) → w.drawn ≡ v.drawn → w.noted.items ≡ v.noted.items ++ j ∷ [] → vec_capacity w.noted ≡ vec_capacity v.noted → w.seen ≡ v.seen → w.ended ≡ v.ended → Moves (machine.after_note j) true v w
@@ -118,9 +109,7 @@ module _ (j : ℕ) (v : Worker) (h : CanNote v) (drawn : machine.has_drawn j v.d
         ∙ ap (λ b. test (true && not b)) fresh
         ∙ ap Some (sym (λ i. machine.worker (same i).items (items i) (seen i) (ended i)));
     room = λ all next r.
-        let len = ap (λ u. length u.items) same in
-        let a = r.short in
-        let b = r.below in
+        let len = ap (λ u. length u.items) same in let a = r.short in let b = r.below in
         record {
           room = let c = r.room in let e = ap vec_capacity same in omega arith;
           noted_room = let c = r.noted_room in omega arith;
