@@ -90,8 +90,7 @@ module _ (j : ℕ) (v : Worker) (h : CanNote v) (drawn : machine.has_drawn j v.d
 
       cases : (b : Bool) → (j == x) ≡ b → times x (v.noted.items ++ j ∷ []) ≤ times x (jobs_in v.drawn.items)
       cases true e =
-          let same : j ≡ x = grind arith in
-          let some = subst (λ k. 0 < times k (jobs_in v.drawn.items)) same (drawn_times j v.drawn.items drawn) in
+          let same : j ≡ x = grind arith in let some = subst (λ k. 0 < times k (jobs_in v.drawn.items)) same (drawn_times j v.drawn.items drawn) in
           let none = subst (λ k. times k v.noted.items ≡ 0) same (noted_times j v.noted.items fresh) in let one = ap one_of e in
           let sum = more in omega arith
       cases false e = let was = h.own x in let one = ap one_of e in let sum = more in omega arith
