@@ -1,9 +1,9 @@
 -- Moves of the code's worker are those of the machine's, and keep its room.
-use Rattle.std.proofs.Common.{◌≡◌, ℕ, zero, suc, ◌+◌, ◌≤◌, ◌<◌, Bool, true, false, ◌==◌, ◌||◌, ◌&&◌, not, List, [], ◌∷◌, ◌++◌, map, take, length, Option, Some, None, sym, refl, ap, ◌∙◌, arith, cond, subst, MatchBool}
+use Rattle.std.proofs.Common.{◌≡◌, ℕ, ◌+◌, ◌≤◌, ◌<◌, Bool, true, false, ◌==◌, ◌||◌, ◌&&◌, not, List, [], ◌∷◌, ◌++◌, take, length, Option, Some, None, sym, refl, ap, ◌∙◌, arith, cond, subst, MatchBool}
 use Rattle.std.proofs.lemmas.List.{length-map, length-append, map-append}
 use Rattle.std.proofs.Math.Seq.{take-append_seam}
 use Rattle.std.specs.Prelude.{vec_capacity, nat_lt}
-use Rattle.pool_core.specs.declared.mark.Mark.{Mark}
+use Rattle.pool_core.specs.declared.marks.Mark.{Mark}
 use Rattle.pool_core.specs.declared.worker.Worker.{Worker}
 use Rattle.pool_core.specs.Numbers.{times}
 use Rattle.pool_core.specs.States.{shown, jobs_in, HasRoom, CanNote, Draws, Moves}

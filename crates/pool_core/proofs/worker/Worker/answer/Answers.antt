@@ -1,5 +1,4 @@
-use Rattle.std.proofs.Common.{◌≡◌, ◌∙◌, sym, refl, ap, Some, None, MatchBool, subst, arith}
-use Rattle.pool_core.specs.declared.mark.Mark.{Mark}
+use Rattle.std.proofs.Common.{◌≡◌, refl, Some, None, MatchBool, subst, arith}
 use Rattle.pool_core.specs.Machine.{answer}
 use Rattle.pool_core.proofs.Moving.{answers, written}
 use Rattle.pool_core.proofs.worker.Worker.answer.Goals as goal
