@@ -1,12 +1,12 @@
 -- Moves of the code's worker are those of the machine's, and keep its room.
-use Rattle.std.proofs.Common.{◌≡◌, ℕ, ◌+◌, ◌≤◌, ◌<◌, Bool, true, false, ◌==◌, ◌||◌, ◌&&◌, not, List, [], ◌∷◌, ◌++◌, take, length, Option, Some, None, sym, refl, ap, ◌∙◌, arith, cond, subst, MatchBool}
+use Rattle.std.proofs.Common.{◌≡◌, ℕ, ◌+◌, ◌≤◌, ◌<◌, Bool, true, false, ◌==◌, ◌||◌, ◌&&◌, not, List, [], ◌∷◌, ◌++◌, take, length, Option, Some, None, sym, refl, ap, ◌∙◌, arith, cond, subst}
 use Rattle.std.proofs.lemmas.List.{length-map, length-append, map-append}
 use Rattle.std.proofs.Math.Seq.{take-append_seam}
 use Rattle.std.specs.Prelude.{vec_capacity, nat_lt}
 use Rattle.pool_core.specs.declared.marks.Mark.{Mark}
 use Rattle.pool_core.specs.declared.worker.Worker.{Worker}
 use Rattle.pool_core.specs.Numbers.{times}
-use Rattle.pool_core.specs.States.{shown, jobs_in, HasRoom, CanNote, Draws, Moves}
+use Rattle.pool_core.specs.States.{shown, Answered, jobs_in, HasRoom, CanNote, Draws, Moves}
 use Rattle.pool_core.specs.Machine as machine
 use Rattle.pool_core.proofs.Lists.{pick, times_append, answer_jobs, no_longer, job_of}
 
@@ -49,7 +49,7 @@ pub written : (n : ℕ) (xs ys : List Mark) → n ≡ length xs → take n (xs +
 written n xs ys e = ap (λ k. take k (xs ++ ys)) e ∙ take-append_seam xs ys
 
 -- a job is answered, or not
-pub answers : (j : ℕ) (done : Bool) (v w : Worker) (ms : List Mark) → MatchBool done (machine.answer j v.drawn.items ≡ Some ms) ((machine.answer j v.drawn.items ≡ None) × (ms ≡ v.drawn.items))
+pub answers : (j : ℕ) (done : Bool) (v w : Worker) (ms : List Mark) → Answered j done v.drawn.items ms
     → w.drawn.items ≡ ms → vec_capacity w.drawn ≡ vec_capacity v.drawn → w.noted ≡ v.noted → w.seen ≡ v.seen → w.ended ≡ v.ended → Moves (machine.after_answer j) done v w
 answers j true v w ms is items cap noted seen ended = record {
   shows = ap (machine.with_marks (shown v)) is ∙ ap Some (sym (λ i. machine.worker (items i) (noted i).items (seen i) (ended i)));
