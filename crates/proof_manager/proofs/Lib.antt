@@ -6,3 +6,4 @@ pub mod Nodes
 pub mod Forms
 pub mod Readings
 pub mod Meant
+pub mod Marks

@@ -1,5 +1,5 @@
 -- What the modules say, and how their reading ends.
-use Rattle.std.specs.Prelude.{◌≡◌, List, map, Option, None, Some, Result, Ok, Err, IsErrAnd}
+use Rattle.std.specs.Prelude.{◌≡◌, ℕ, List, map, Option, None, Some, Result, Ok, Err, IsErrAnd}
 use Rattle.std.proofs.Common.{ap, sym, subst, ◌∙◌}
 use Rattle.tla_io.specs.Told.{Bytes, Folder}
 use Rattle.tla_ast.specs.declared.unit.Loaded.{Loaded}
@@ -15,6 +15,7 @@ use Rattle.module_shelf.specs.Loading.{followed, loading}
 use Rattle.module_shelf.specs.Causes as shelf
 use Rattle.proof_manager.specs.declared.outline.Chapter.{Chapter}
 use Rattle.proof_manager.specs.declared.outline.Outline.{Outline}
+use Rattle.proof_manager.specs.Temporal.{temporal_numbers}
 use Rattle.proof_manager.specs.Outline.{Answer, and_then, each, chapter_of, outlined, outline_of, load_fault, as_outcome, reading}
 use Rattle.proof_manager.specs.Causes.{Answers, Loads}
 
@@ -27,13 +28,16 @@ names-stop {U = U} view (Err x) e one next is h = subst (λ y. Answers {T = U} v
     same fault.Memory h = tt
     same (fault.At owner place kind) h = ap (λ r. and_then r next) (h (λ q. cc))
 
-pub outline-stops : (ms ns : List Module) (table : Table) (e : ScopeFault) → resolution ms ≡ Ok table → ns ≡ ms → each (chapter_of table) 0 ns ≡ Err e → outline_of ms ≡ Err e
+pub outline-stops : (ms ns : List Module) (table : Table) (ts : List ℕ) (e : ScopeFault) → resolution ms ≡ Ok table → ns ≡ ms → ts ≡ temporal_numbers table ns → each (chapter_of ts table) 0 ns ≡ Err e → outline_of ms ≡ Err e
 unfolding outline_of outlined
-outline-stops ms ns table e s n h = ap (λ r. and_then r (outlined ms)) s ∙ ap (λ r. and_then r (λ cs. Ok (record { scoped = table; chapters = cs }))) (ap (each (chapter_of table) 0) (sym n) ∙ h)
+outline-stops ms ns table ts e s n t h =
+    ap (λ r. and_then r (outlined ms)) s ∙ ap (λ r. and_then r (λ cs. Ok (record { scoped = table; chapters = cs }))) ((λ i. each (chapter_of (temporal_numbers table (sym n i)) table) 0 (sym n i)) ∙ (λ i. each (chapter_of (sym t i) table) 0 ns) ∙ h)
 
-pub outline-made : (ms ns : List Module) (table : Table) (cs : List Chapter) → resolution ms ≡ Ok table → ns ≡ ms → each (chapter_of table) 0 ns ≡ Ok cs → outline_of ms ≡ Ok (record { scoped = table; chapters = cs })
+pub outline-made : (ms ns : List Module) (table : Table) (ts : List ℕ) (cs : List Chapter) → resolution ms ≡ Ok table → ns ≡ ms → ts ≡ temporal_numbers table ns → each (chapter_of ts table) 0 ns ≡ Ok cs
+    → outline_of ms ≡ Ok (record { scoped = table; chapters = cs })
 unfolding outline_of outlined
-outline-made ms ns table cs s n h = ap (λ r. and_then r (outlined ms)) s ∙ ap (λ r. and_then r (λ cs. Ok (record { scoped = table; chapters = cs }))) (ap (each (chapter_of table) 0) (sym n) ∙ h)
+outline-made ms ns table ts cs s n t h =
+    ap (λ r. and_then r (outlined ms)) s ∙ ap (λ r. and_then r (λ cs. Ok (record { scoped = table; chapters = cs }))) ((λ i. each (chapter_of (temporal_numbers table (sym n i)) table) 0 (sym n i)) ∙ (λ i. each (chapter_of (sym t i) table) 0 ns) ∙ h)
 
 -- the loading stops
 pub loading-stops : (told : Option Folder) (root : Bytes) (r : Result Outline LoadFault) (e : LoadFault) → IsErrAnd r (λ x. x ≡ e)

@@ -1,4 +1,5 @@
 pub mod Words
+pub mod Temporal
 pub mod Outline
 pub mod Report
 pub mod Status

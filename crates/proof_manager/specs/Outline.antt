@@ -1,11 +1,7 @@
 -- The theorems of modules that are answered, or the first unit that has another form.
-use Rattle.std.specs.Prelude.{ℕ, suc, Bool, false, ◌&&◌, not, nat_le, if◌then◌else◌, List, [], ◌∷◌, ◌++◌, map, Option, Some, None, Result, Ok, Err, codes}
-use Rattle.std.specs.List.{list_any}
+use Rattle.std.specs.Prelude.{ℕ, suc, Bool, false, ◌&&◌, not, if◌then◌else◌, List, [], ◌∷◌, ◌++◌, map, Option, Some, None, Result, Ok, Err, codes}
 use Rattle.std.specs.Option.{option_map}
-use Rattle.core_expr.specs.declared.row.RowKind.{RowKind}
-use Rattle.core_expr.specs.declared.row.RowKind.TheVariants.{Bound, Symbol, Plain, Binding}
 use Rattle.core_expr.specs.Tree.{Tree}
-use Rattle.core_expr.specs.Flat.{rows_of}
 use Rattle.tla_io.specs.Told.{Folder}
 use Rattle.tla_ast.specs.declared.place.Place.{Place}
 use Rattle.tla_ast.specs.declared.tree.Decl.{Decl}
@@ -17,14 +13,14 @@ use Rattle.plain_syntax.specs.Plain.{Text, Term, Item, Proof, UnitKind, Module}
 use Rattle.plain_syntax.specs.Plain.Proof.{missing, obvious, omitted, by_facts, steps}
 use Rattle.plain_syntax.specs.Plain.UnitKind.{constants, variables, assume, definition, theorem}
 use Rattle.plain_syntax.specs.Syntax.{module_of}
-use Rattle.symbol_table.specs.declared.entry.Entry.{Entry}
-use Rattle.symbol_table.specs.Scoped.{Table, entry_of}
+use Rattle.symbol_table.specs.Scoped.{Table}
 use Rattle.module_scope.specs.Resolution.{resolution}
 use Rattle.module_shelf.specs.declared.fault.LoadFault.{LoadFault}
 use Rattle.module_shelf.specs.declared.fault.LoadFault.TheVariants as load
 use Rattle.module_shelf.specs.Loading.{Outcome, followed, loading}
 use Rattle.prime_expand.specs.Core.{core_in}
 use Rattle.valuation.specs.Truth.{is_propositional}
+use Rattle.proof_manager.specs.Temporal.{has_temporal, temporal_numbers}
 use Rattle.proof_manager.specs.declared.outline.Theorem.{Theorem}
 use Rattle.proof_manager.specs.declared.outline.Chapter.{Chapter}
 use Rattle.proof_manager.specs.declared.outline.Outline.{Outline}
@@ -46,23 +42,16 @@ each f n (x ∷ xs) = and_then (f n x) (λ ys. and_then (each f (suc n) xs) (λ 
 
 -- ---- theorems
 
--- the symbol of a definition that is a temporal formula
-abbrev pub is_temporal : List Entry → RowKind → Bool
-is_temporal es (Symbol s) = nat_le 3 (entry_of es s.number).level
-is_temporal es Bound = false
-is_temporal es (Plain h) = false
-is_temporal es (Binding b) = false
-
--- a propositional formula none of whose symbols means a temporal one
-abbrev pub is_answered : List Entry → Tree → Bool
-is_answered es e = is_propositional e && not (list_any (λ r. is_temporal es r.kind) (rows_of e))
+-- a propositional formula that leads to nothing temporal, by the numbers of the definitions that do
+abbrev pub is_answered : List ℕ → Tree → Bool
+is_answered ns e = is_propositional e && not (has_temporal ns e)
 
 abbrev pub name_of : Option Decl → Option Text
 name_of = option_map (λ d. d.name)
 
 -- the theorem, where what it states is answered
-abbrev pub if_answered : List Entry → Theorem → Option Theorem
-if_answered es t = if is_answered es t.statement then Some t else None
+abbrev pub if_answered : List ℕ → Theorem → Option Theorem
+if_answered ns t = if is_answered ns t.statement then Some t else None
 
 -- the place of a proof that is OBVIOUS
 abbrev pub obvious_at : Proof → Option Place
@@ -73,11 +62,11 @@ obvious_at (by_facts p only facts defs) = None
 obvious_at (steps ss) = None
 
 -- a theorem of a module: it has no assumptions, and its proof is OBVIOUS
-abbrev pub theorem_of : Table → ℕ → Place → Option Decl → List Item → Term → Option Place → Option Theorem
-theorem_of table m p w [] t (Some leaf) =
-    if_answered table.entries (record { name = name_of w; place = p; leaf = leaf; statement = core_in table m false t })
-theorem_of table m p w [] t None = None
-theorem_of table m p w (x ∷ xs) t leaf = None
+abbrev pub theorem_of : List ℕ → Table → ℕ → Place → Option Decl → List Item → Term → Option Place → Option Theorem
+theorem_of ns table m p w [] t (Some leaf) =
+    if_answered ns (record { name = name_of w; place = p; leaf = leaf; statement = core_in table m false t })
+theorem_of ns table m p w [] t None = None
+theorem_of ns table m p w (x ∷ xs) t leaf = None
 
 -- the refusal of what is not built yet, at this place of the module
 abbrev pub form : Text → Place → ScopeFault
@@ -88,26 +77,26 @@ or_left_out owner p None = Err (form owner p)
 or_left_out owner p (Some t) = Ok (t ∷ [])
 
 -- the theorem of a unit, if it is one; an assumption is left out
-abbrev pub by_kind : Table → ℕ → Text → Place → UnitKind → Answer (List Theorem)
-by_kind table m owner p (constants ds) = Ok []
-by_kind table m owner p (variables ds) = Ok []
-by_kind table m owner p (definition ds) = Ok []
-by_kind table m owner p (assume w t) = Err (form owner p)
-by_kind table m owner p (theorem w s proof) = or_left_out owner p (theorem_of table m p w s.items s.goal (obvious_at proof))
+abbrev pub by_kind : List ℕ → Table → ℕ → Text → Place → UnitKind → Answer (List Theorem)
+by_kind ns table m owner p (constants ds) = Ok []
+by_kind ns table m owner p (variables ds) = Ok []
+by_kind ns table m owner p (definition ds) = Ok []
+by_kind ns table m owner p (assume w t) = Err (form owner p)
+by_kind ns table m owner p (theorem w s proof) = or_left_out owner p (theorem_of ns table m p w s.items s.goal (obvious_at proof))
 
 -- ---- modules
 
 -- the theorems of these units of the module with the number m
-unfoldable pub unit_theorems : Table → ℕ → Text → List plain.Unit → Answer (List Theorem)
-unit_theorems table m owner us = each (λ (i : ℕ) (u : plain.Unit). by_kind table m owner u.place u.kind) 0 us
+unfoldable pub unit_theorems : List ℕ → Table → ℕ → Text → List plain.Unit → Answer (List Theorem)
+unit_theorems ns table m owner us = each (λ (i : ℕ) (u : plain.Unit). by_kind ns table m owner u.place u.kind) 0 us
 
 -- a module with its theorems
-unfoldable pub chapter_of : Table → ℕ → Module → Answer (List Chapter)
-chapter_of table m x = and_then (unit_theorems table m x.name x.units) (λ ts. Ok (record { name = x.name; theorems = ts } ∷ []))
+unfoldable pub chapter_of : List ℕ → Table → ℕ → Module → Answer (List Chapter)
+chapter_of ns table m x = and_then (unit_theorems ns table m x.name x.units) (λ ts. Ok (record { name = x.name; theorems = ts } ∷ []))
 
 -- those of all modules
 unfoldable pub outlined : List Module → Table → Answer Outline
-outlined ms table = and_then (each (chapter_of table) 0 ms) (λ cs. Ok (record { scoped = table; chapters = cs }))
+outlined ms table = and_then (each (chapter_of (temporal_numbers table ms) table) 0 ms) (λ cs. Ok (record { scoped = table; chapters = cs }))
 
 -- what the modules say, or the first fault: one of a name, a number of arguments or a level before all that is left out
 unfoldable pub outline_of : List Module → Answer Outline

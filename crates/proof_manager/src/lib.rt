@@ -10,6 +10,7 @@ mod load;
 mod outline;
 mod report;
 mod status;
+mod temporal;
 mod top;
 mod values;
 mod words;

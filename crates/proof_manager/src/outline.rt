@@ -1,14 +1,15 @@
 //! What the modules state, as far as it is answered.
 
 ghost use Rattle.std.specs.Prelude.{◌≡◌, ◌∷◌, ◌++◌, [], map, IfOk, OnOk};
-ghost use Rattle.std.specs.List.{All, list_any};
+ghost use Rattle.std.specs.List.{All};
 ghost use Rattle.std.specs.Option.{option_to_list};
-ghost use Rattle.core_expr.specs.Flat.{rows_of};
 ghost use Rattle.plain_syntax.specs.Syntax.{item_of, term_of, proof_of, kind_of, unit_of, module_of};
 ghost use Rattle.proof_manager.specs.Outline as spec;
 ghost use Rattle.proof_manager.specs.Causes.{AreStatements, Answers, IsStatement};
 
-use core_expr::{Expr, Memory, RowKind, Text};
+use crate::temporal::{has_temporal, temporal_numbers};
+use core_expr::{Expr, Memory, Text};
+use indexmap::IndexSet;
 use module_scope::resolve;
 use prime_expand::to_core;
 use sqlite_items::Items;
@@ -40,54 +41,30 @@ pub struct Outline {
     pub chapters: Items<Chapter>,
 }
 
-/// Where a unit stands: the table of names, and the number and the name of its module.
+/// Where a unit stands: the table of names, the numbers of the temporal definitions, and the number and the name of its module.
 #[derive(Clone, Copy)]
 struct Home<'a> {
     alloc: Global,
     scoped: &'a Scoped,
+    temporal: &'a IndexSet<u64>,
     number: u64,
     name: &'a Text,
 }
 
-/// Whether a node is the symbol of a definition that is a temporal formula.
-fn is_temporal(scoped: &Scoped, kind: RowKind) -> bool
-    ensures { result ≡ spec.is_temporal scoped.now.entries kind }
+/// Whether an expression is a propositional formula that leads to nothing temporal.
+fn is_answered(temporal: &IndexSet<u64>, e: &Expr) -> bool
+    ensures { result ≡ spec.is_answered temporal.now.keys e.now }
 {
-    match kind {
-        RowKind::Symbol(symbol) => match scoped.entry(symbol.number) {
-            Some(entry) => entry.level >= 3,
-            None => false,
-        },
-        _ => false,
-    }
-}
-
-/// Whether an expression has the symbol of a definition that is a temporal formula.
-fn has_temporal(scoped: &Scoped, e: &Expr) -> bool
-    ensures { result ≡ list_any (λ r. spec.is_temporal scoped.now.entries r.kind) (rows_of e.now) }
-{
-    for i in 0..e.length() {
-        if is_temporal(scoped, e.kind(i)) {
-            return true;
-        }
-    }
-    false
-}
-
-/// Whether an expression is a propositional formula none of whose symbols means a temporal one.
-fn is_answered(scoped: &Scoped, e: &Expr) -> bool
-    ensures { result ≡ spec.is_answered scoped.now.entries e.now }
-{
-    is_formula(e) && !has_temporal(scoped, e)
+    is_formula(e) && !has_temporal(temporal, e)
 }
 
 /// The theorem, where what it states is answered.
-fn if_answered(scoped: &Scoped, theorem: Theorem) -> Option<Theorem>
-    ensures value { result ≡ spec.if_answered scoped.now.entries theorem }
+fn if_answered(temporal: &IndexSet<u64>, theorem: Theorem) -> Option<Theorem>
+    ensures value { result ≡ spec.if_answered temporal.now.keys theorem }
     ensures statement { All IsStatement (option_to_list result) }
 {
     let _ = theorem.statement.length();
-    if is_answered(scoped, &theorem.statement) {
+    if is_answered(temporal, &theorem.statement) {
         Some(theorem)
     } else {
         None
@@ -124,7 +101,7 @@ fn theorem_of(
     leaf: Option<Place>,
 ) -> Result<Option<Theorem>, Memory>
     ensures value { IfOk result (λ o. o
-        ≡ spec.theorem_of home.now.scoped.now home.now.number place name.now (map item_of items.now)
+        ≡ spec.theorem_of home.now.temporal.now.keys home.now.scoped.now home.now.number place name.now (map item_of items.now)
         (term_of goal.now) leaf) }
     ensures statement { IfOk result (λ o. All IsStatement (option_to_list o)) }
 {
@@ -140,7 +117,7 @@ fn theorem_of(
         leaf,
         statement: to_core(home.alloc, home.scoped, home.number, goal, false)?,
     };
-    Ok(if_answered(home.scoped, theorem))
+    Ok(if_answered(home.temporal, theorem))
 }
 
 /// The refusal of what is not built yet.
@@ -157,7 +134,7 @@ fn left_out(home: &Home, place: Place) -> Result<ScopeFault, Memory>
 /// The theorem of a unit, if it is one; or the refusal of a unit of another form.
 fn unit_theorem(home: &Home, unit: &Unit) -> Result<Option<Theorem>, ScopeFault>
     ensures value { Answers option_to_list result
-        (spec.by_kind home.now.scoped.now home.now.number home.now.name.now unit.now.place
+        (spec.by_kind home.now.temporal.now.keys home.now.scoped.now home.now.number home.now.name.now unit.now.place
         (kind_of unit.now.kind)) }
     ensures statement { IfOk result (λ o. All IsStatement (option_to_list o)) }
 {
@@ -192,7 +169,7 @@ fn push_some(theorems: &mut Items<Theorem>, theorem: Option<Theorem>) -> Result<
 /// The theorems of the units of a module, or the refusal of its first unit of another form.
 fn theorems_of(home: &Home, units: &[Unit]) -> Result<Items<Theorem>, ScopeFault>
     ensures value { Answers (λ ts. ts) result
-        (spec.unit_theorems home.now.scoped.now home.now.number home.now.name.now (map unit_of units.now)) }
+        (spec.unit_theorems home.now.temporal.now.keys home.now.scoped.now home.now.number home.now.name.now (map unit_of units.now)) }
     ensures statements { IfOk result (λ ts. All IsStatement ts) }
 {
     let mut theorems = Items::new(home.alloc);
@@ -208,16 +185,18 @@ fn theorems_of(home: &Home, units: &[Unit]) -> Result<Items<Theorem>, ScopeFault
 fn chapter_of(
     alloc: Global,
     scoped: &Scoped,
+    temporal: &IndexSet<u64>,
     number: u64,
     module: &Module,
 ) -> Result<Chapter, ScopeFault>
     ensures value { Answers (λ c. c ∷ []) result
-        (spec.chapter_of scoped.now number (module_of «module».now)) }
+        (spec.chapter_of temporal.now.keys scoped.now number (module_of «module».now)) }
     ensures statements { IfOk result (λ c. All IsStatement c.theorems) }
 {
     let home = Home {
         alloc,
         scoped,
+        temporal,
         number,
         name: &module.name,
     };
@@ -230,15 +209,16 @@ fn chapter_of(
 fn chapters_of(
     alloc: Global,
     scoped: &Scoped,
+    temporal: &IndexSet<u64>,
     modules: &[Module],
 ) -> Result<Items<Chapter>, ScopeFault>
     ensures value { Answers (λ cs. cs) result
-        (spec.each (spec.chapter_of scoped.now) 0 (map module_of modules.now)) }
+        (spec.each (spec.chapter_of temporal.now.keys scoped.now) 0 (map module_of modules.now)) }
     ensures statements { IfOk result (λ cs. AreStatements cs) }
 {
     let mut chapters = Items::new(alloc);
     for module in modules {
-        let chapter = chapter_of(alloc, scoped, chapters.len() as u64, module)?;
+        let chapter = chapter_of(alloc, scoped, temporal, chapters.len() as u64, module)?;
         chapters.push(chapter)?;
     }
     Ok(chapters)
@@ -251,6 +231,8 @@ pub fn outline_of(alloc: Global, loaded: &Loaded) -> Result<Outline, ScopeFault>
     ensures statements { IfOk result (λ o. AreStatements o.chapters) }
 {
     let scoped = resolve(alloc, loaded)?;
-    let chapters = chapters_of(alloc, &scoped, loaded.modules.as_slice())?;
+    let modules = loaded.modules.as_slice();
+    let temporal = temporal_numbers(alloc, &scoped, modules)?;
+    let chapters = chapters_of(alloc, &scoped, &temporal, modules)?;
     Ok(Outline { scoped, chapters })
 }

@@ -8,10 +8,10 @@ pub returns-in_err-chapter-clause-value : goal.returns-in_err-chapter-clause-val
 returns-in_err-chapter-clause-value c =
     let t = c.args.scoped.now in
     let n = c.len.ensures ∙ c.loop-module.invariant.count in
-    passed-on (λ x. x ∷ []) (λ cs. cs) c.from_residual.result c.in_err-chapter.field-0.0 (chapter_of t c.len.result (module_of c.module-item.result)) _ c.from_residual.ensures.1 c.in_err-chapter.ensures.value
-    (λ e. each-stops (chapter_of t) module_of c.args.modules.now c.loop-module.module-index c.module-item.result c.loop-module.chapters _ c.in_err-chapter.field-0.0 c.loop-module-test.true c.module-item.is c.loop-module.invariant.value
-    (ap (λ k. chapter_of t k (module_of c.module-item.result)) (sym n) ∙ e))
+    passed-on (λ x. x ∷ []) (λ cs. cs) c.from_residual.result c.in_err-chapter.field-0.0 (chapter_of c.args.temporal.now.keys t c.len.result (module_of c.module-item.result)) _ c.from_residual.ensures.1 c.in_err-chapter.ensures.value
+    (λ e. each-stops (chapter_of c.args.temporal.now.keys t) module_of c.args.modules.now c.loop-module.module-index c.module-item.result c.loop-module.chapters _ c.in_err-chapter.field-0.0 c.loop-module-test.true c.module-item.is c.loop-module.invariant.value
+    (ap (λ k. chapter_of c.args.temporal.now.keys t k (module_of c.module-item.result)) (sym n) ∙ e))
 
 pub returns-clause-value : goal.returns-clause-value
 returns-clause-value c =
-    each-ends (chapter_of c.args.scoped.now) module_of c.args.modules.now c.loop-module.module-index c.loop-module.chapters _ c.loop-module-test.false c.loop-module.invariant.value
+    each-ends (chapter_of c.args.temporal.now.keys c.args.scoped.now) module_of c.args.modules.now c.loop-module.module-index c.loop-module.chapters _ c.loop-module-test.false c.loop-module.invariant.value

@@ -8,6 +8,6 @@ use Rattle.proof_manager.proofs.outline.chapters_of.Given as goal
 abbrev pub invariant-loop-module : goal.invariant-loop-module
 invariant-loop-module l = record {
   count : length l.chapters ≡ l.module-index;
-  value : behind l.chapters (each (chapter_of l.scoped) l.module-index (map module_of (drop l.module-index l.modules))) ≡ each (chapter_of l.scoped) 0 (map module_of l.modules);
+  value : behind l.chapters (each (chapter_of l.temporal.keys l.scoped) l.module-index (map module_of (drop l.module-index l.modules))) ≡ each (chapter_of l.temporal.keys l.scoped) 0 (map module_of l.modules);
   statements : AreStatements l.chapters;
 }

@@ -16,9 +16,9 @@ pub returns-in_err-chapters-clause-value : goal.returns-in_err-chapters-clause-v
 returns-in_err-chapters-clause-value c =
     let ms = map module_of c.args.loaded.now.modules in
     passed-on (λ cs. cs) (λ o. o) c.from_residual-in_err-chapters.result c.in_err-chapters.field-0.0 _ _ c.from_residual-in_err-chapters.ensures.1 c.in_err-chapters.ensures.value
-    (outline-stops ms (map module_of c.as_slice.result.now) c.in_ok-scoped.scoped c.in_err-chapters.field-0.0 c.in_ok-scoped.ensures (ap (map module_of) c.as_slice.ensures))
+    (outline-stops ms (map module_of c.as_slice-modules.result.now) c.in_ok-scoped.scoped c.in_ok-temporal.temporal.keys c.in_err-chapters.field-0.0 c.in_ok-scoped.ensures (ap (map module_of) c.as_slice-modules.ensures) c.in_ok-temporal.ensures)
 
 pub returns-clause-value : goal.returns-clause-value
 returns-clause-value c =
     let ms = map module_of c.args.loaded.now.modules in
-    outline-made ms (map module_of c.as_slice.result.now) c.in_ok-scoped.scoped c.in_ok-chapters.chapters c.in_ok-scoped.ensures (ap (map module_of) c.as_slice.ensures) c.in_ok-chapters.ensures.value
+    outline-made ms (map module_of c.as_slice-modules.result.now) c.in_ok-scoped.scoped c.in_ok-temporal.temporal.keys c.in_ok-chapters.chapters c.in_ok-scoped.ensures (ap (map module_of) c.as_slice-modules.ensures) c.in_ok-temporal.ensures c.in_ok-chapters.ensures.value
