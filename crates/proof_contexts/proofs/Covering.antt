@@ -1,6 +1,6 @@
 -- What a list of formulas holds of a context.
 use Rattle.std.specs.Prelude.{◌≡◌, ℕ, ◌≤◌, Bool, true, false, ◌&&◌, not, cond, Option, Some, None, List, [], ◌∷◌, ◌++◌, map}
-use Rattle.std.proofs.Common.{refl, ap, sym, ◌∙◌, subst, inl, inr}
+use Rattle.std.proofs.Common.{refl, ap, sym, ◌∙◌, subst, inl}
 use Rattle.core_expr.specs.declared.head.Sym.{Sym}
 use Rattle.core_expr.specs.declared.canon.Canon.{Canon}
 use Rattle.core_expr.specs.Tree.{Tree}
@@ -12,10 +12,9 @@ use Rattle.tla_ast.specs.declared.place.Place.{Place}
 use Rattle.obligation.specs.declared.obligation.Definition.{Definition}
 use Rattle.obligation.specs.declared.obligation.Obligation.{Obligation}
 use Rattle.obligation.specs.Unfolding.{unfolded}
-use Rattle.proof_contexts.specs.declared.leaf.LeafKind.{LeafKind}
 use Rattle.proof_contexts.specs.declared.leaf.LeafKind.TheVariants as kind
 use Rattle.proof_contexts.specs.Expansion.{has_number}
-use Rattle.proof_contexts.specs.Canonical.{canon_of, obligation_canon}
+use Rattle.proof_contexts.specs.Canonical.{obligation_canon}
 use Rattle.proof_contexts.specs.Steps.{Fact}
 use Rattle.proof_contexts.specs.Steps.Fact.{Cited, Plain}
 use Rattle.proof_contexts.specs.Contexts.{Entry, names_of, usable_of, named, cited_of, used, aliases, use_facts, usable, hidden, has_any}

@@ -1,12 +1,9 @@
 -- What is unfolded in part has the same full expansion.
-use Rattle.std.specs.Prelude.{◌≡◌, ℕ, List}
 use Rattle.std.proofs.Common.{sym, ◌∙◌}
-use Rattle.core_expr.specs.Tree.{Tree}
-use Rattle.obligation.specs.Unfolding.{unfolded}
-use Rattle.proof_contexts.specs.Expansion.{chosen, unfold_head, full}
+use Rattle.proof_contexts.specs.Expansion.{chosen, unfold_head}
 use Rattle.proof_contexts.specs.Contexts.{unfolded_by}
 use Rattle.proof_contexts.specs.Laws.{ExpansionIsFinal}
-use Rattle.proof_contexts.proofs.Putting.{expansion, whole, unfolded-whole, chosen-expands, sub-unfolded, sub-head, expands}
+use Rattle.proof_contexts.proofs.Putting.{expansion, unfolded-whole, chosen-expands, sub-unfolded, sub-head, expands}
 
 pub expansion_final : ExpansionIsFinal
 expansion_final rank table o u e =

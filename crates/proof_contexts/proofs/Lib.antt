@@ -8,3 +8,4 @@ mod StepLaws
 mod Assembly
 mod Cited
 mod Reported
+mod Examples

@@ -40,6 +40,9 @@ mutual
 abbrev pub at : Sym → Tree → Sym → Option Tree
 at c t = named ((c, t) ∷ [])
 
+abbrev if_there : Bool → Tree → Option Tree
+if_there b t = elim b [ true ↦ Some t | false ↦ None ]
+
 -- one map after another
 abbrev then_map : (Sym → Option Tree) → Option Tree → Option Tree → Option Tree
 then_map s None o = o
@@ -124,7 +127,7 @@ chosen-expands s u (d ∷ ds) h = go (has_number u d.symbol.number) (chosen-expa
 sub-put_in : (s : Sym → Option Tree) (d : Definition) (e : Tree) → Expands s d → sub s (put_in d e) ≡ sub s e
 sub-put_in s d e h = sub-sub s (at d.symbol d.body) e ∙ sub-same (after_map s (at d.symbol d.body)) s e (λ f. absorb f (same_sym d.symbol f) refl)
   where
-    absorb : (f : Sym) (b : Bool) → same_sym d.symbol f ≡ b → then_map s (elim b [ true ↦ Some d.body | false ↦ None ]) (s f) ≡ s f
+    absorb : (f : Sym) (b : Bool) → same_sym d.symbol f ≡ b → then_map s (if_there b d.body) (s f) ≡ s f
     absorb f true e = sym h ∙ ap s (sym-same d.symbol f e)
     absorb f false e = refl
 
@@ -153,7 +156,7 @@ pub undefined-none : (ds : List Definition) (f : Sym) → is_defined ds f ≡ fa
 undefined-none [] f h = refl
 undefined-none (d ∷ ds) f h = go (same_sym d.symbol f) (is_defined ds f) h (undefined-none ds f)
   where
-    go : (a b : Bool) → a || b ≡ false → (b ≡ false → expansion ds f ≡ None) → then_map (at d.symbol d.body) (expansion ds f) (elim a [ true ↦ Some d.body | false ↦ None ]) ≡ None
+    go : (a b : Bool) → a || b ≡ false → (b ≡ false → expansion ds f ≡ None) → then_map (at d.symbol d.body) (expansion ds f) (if_there a d.body) ≡ None
     go true b h k = absurd (differ h)
       where
         differ : true ≡ false → ⊥
@@ -273,7 +276,7 @@ module _ (rank : Sym → ℕ) where
   at-low : (n : ℕ) (c : Sym) (t : Tree) (f : Sym) → n ≤ rank c → rank f < n → at c t f ≡ None
   at-low n c t f q h = go (same_sym c f) refl
     where
-      go : (b : Bool) → same_sym c f ≡ b → elim b [ true ↦ Some t | false ↦ None ] ≡ None
+      go : (b : Bool) → same_sym c f ≡ b → if_there b t ≡ None
       go true e =
           let w : rank c ≡ rank f = ap rank (sym-same c f e) in
           absurd (omega arith)
@@ -288,7 +291,7 @@ module _ (rank : Sym → ℕ) where
   at-falls : (d : Definition) → IsBelow rank (rank d.symbol) d.body → IsFalling (at d.symbol d.body)
   at-falls d o f b e = go (same_sym d.symbol f) refl e
     where
-      go : (c : Bool) → same_sym d.symbol f ≡ c → elim c [ true ↦ Some d.body | false ↦ None ] ≡ Some b → IsBelow rank (rank f) b
+      go : (c : Bool) → same_sym d.symbol f ≡ c → if_there c d.body ≡ Some b → IsBelow rank (rank f) b
       go true q e =
           let w : d.body ≡ b = cc in
           subst (λ (x : Sym). IsBelow rank (rank x) b) (sym-same d.symbol f q) (subst (IsBelow rank (rank d.symbol)) w o)
@@ -323,7 +326,7 @@ module _ (rank : Sym → ℕ) where
       ap (λ (o : Option Tree). then_map (at e.symbol e.body) o (at e.symbol e.body d.symbol)) (first-none d ds h.2)
       ∙ go (same_sym e.symbol d.symbol) refl
     where
-      go : (b : Bool) → same_sym e.symbol d.symbol ≡ b → elim b [ true ↦ Some e.body | false ↦ None ] ≡ None
+      go : (b : Bool) → same_sym e.symbol d.symbol ≡ b → if_there b e.body ≡ None
       go true q = absurd (differ (same_sym d.symbol e.symbol) h.0 (ap (same_sym d.symbol) (sym-same e.symbol d.symbol q) ∙ sym-itself d.symbol))
         where
           differ : (b : Bool) → b ≡ false → b ≡ true → ⊥
@@ -350,7 +353,7 @@ module _ (rank : Sym → ℕ) where
       here : Expands (expansion (d ∷ ds)) d
       here =
           ap (λ (o : Option Tree). then_map (at d.symbol d.body) o (at d.symbol d.body d.symbol)) (first-none d ds o.1)
-          ∙ ap (λ (b : Bool). elim b [ true ↦ Some d.body | false ↦ None ]) (sym-itself d.symbol)
+          ∙ ap (λ (b : Bool). if_there b d.body) (sym-itself d.symbol)
           ∙ ap Some (sym (sub-low (expansion (d ∷ ds)) (rank d.symbol) d.body low_at o.0))
 
 -- a map over a list of formulas

@@ -20,8 +20,8 @@ use Rattle.proof_contexts.specs.Steps.Step.{Assert, Case, Suffices, Have, Take, 
 use Rattle.proof_contexts.specs.Leaves.{IsProved, AreProved}
 use Rattle.proof_contexts.specs.Theorems.{Known, Theorem, assumptions, fact, assumes, IsDerivable, theorem_leaves}
 use Rattle.proof_contexts.specs.Theorems.Known.{Assumption, Earlier}
-use Rattle.proof_contexts.specs.Statuses.{cites_facts, cites, cites_steps, cites_step, Verdict as answers, verdict, is_there, worst, by_cited, status, Status, is_proved, may_with, verdicts, is_reported, done_with, IsReported}
-use Rattle.proof_contexts.specs.Statuses.Status.{By_leaf, Conditional}
+use Rattle.proof_contexts.specs.Statuses.{cites_facts, cites, cites_steps, cites_step, Verdict as answers, verdict, is_there, worst, by_cited, status, is_proved, may_with, verdicts, is_reported, done_with, IsReported}
+use Rattle.proof_contexts.specs.Statuses.Status.{Conditional}
 use Rattle.proof_contexts.specs.Right.{RightFacts, RightProof, RightSteps, RightStep, RightTheorem, AreOrdered, Among, IsOther, Stand, InOrder}
 use Rattle.proof_contexts.specs.Laws.{IsSound}
 use Rattle.proof_contexts.proofs.Putting.{whole, unfolded-whole, map-whole, falls, expands}
@@ -151,8 +151,8 @@ module _ (rank : Sym → ℕ) (table : List Definition) (is_theorem : ℕ → Bo
   Derived t = Der (assumed table t) (whole table (fact t) ∷ [])
 
   -- what is reported so far has derivations
-  abbrev Have : List ℕ → List Theorem → Type 0
-  Have done ts = (u : Theorem) → Among ts u → has_number done u.key ≡ true → Derived u
+  abbrev Reports : List ℕ → List Theorem → Type 0
+  Reports done ts = (u : Theorem) → Among ts u → has_number done u.key ≡ true → Derived u
 
   -- every earlier theorem's name is a theorem's
   abbrev Names : List Theorem → Type 0
@@ -165,7 +165,7 @@ module _ (rank : Sym → ℕ) (table : List Definition) (is_theorem : ℕ → Bo
       go true b h e = e
       go false b h e = cc
 
-  sources_of : (done : List ℕ) (ts : List Theorem) (t : Theorem) (ks : List Known) → Have done ts → Names ts → Stand table ts t ks → (n : ℕ) → RightTheorem rank table (λ _. true) n t → Sources rank table (may_with table is_theorem answer done) (expands rank table ordered) (falls rank table ordered) (assumed table t) ks
+  sources_of : (done : List ℕ) (ts : List Theorem) (t : Theorem) (ks : List Known) → Reports done ts → Names ts → Stand table ts t ks → (n : ℕ) → RightTheorem rank table (λ _. true) n t → Sources rank table (may_with table is_theorem answer done) (expands rank table ordered) (falls rank table ordered) (assumed table t) ks
   sources_of done ts t [] k m s n r = tt
   sources_of done ts t (Assumption l f ∷ ks) k m s n r = sources_of done ts t ks k m s n r
   sources_of done ts t (Earlier x f ∷ ks) k m ((u, a, e, w, c), s) n r = (
@@ -178,7 +178,7 @@ module _ (rank : Sym → ℕ) (table : List Definition) (is_theorem : ℕ → Bo
     sources_of done ts t ks k m s n r,
   )
 
-  this_theorem : (done : List ℕ) (ts us : List Theorem) (t : Theorem) → Have done ts → Names ts → InOrder rank table is_theorem ts (t ∷ us) → is_reported table is_theorem answer done t ≡ true → Derived t
+  this_theorem : (done : List ℕ) (ts us : List Theorem) (t : Theorem) → Reports done ts → Names ts → InOrder rank table is_theorem ts (t ∷ us) → is_reported table is_theorem answer done t ≡ true → Derived t
   this_theorem done ts us t k m r h =
       let may : ℕ → Bool = may_with table is_theorem answer done in
       let w = r.1 in
@@ -193,7 +193,7 @@ module _ (rank : Sym → ℕ) (table : List Definition) (is_theorem : ℕ → Bo
   other (t ∷ ts) x u o (inl e) = ap (λ (z : Theorem). nat_eq x z.key) (sym e) ∙ o.0
   other (t ∷ ts) x u o (inr a) = other ts x u o.1 a
 
-  known_more : (done : List ℕ) (ts : List Theorem) (t : Theorem) → Have done ts → IsOther t.key ts → (b : Bool) → (b ≡ true → Derived t) → (has_number done t.key ≡ true → Derived t) → Have (cond b (t.key ∷ done) done) (t ∷ ts)
+  known_more : (done : List ℕ) (ts : List Theorem) (t : Theorem) → Reports done ts → IsOther t.key ts → (b : Bool) → (b ≡ true → Derived t) → (has_number done t.key ≡ true → Derived t) → Reports (cond b (t.key ∷ done) done) (t ∷ ts)
   known_more done ts t k o true d f u (inl e) h = subst (λ (z : Theorem). Derived z) e (d refl)
   known_more done ts t k o true d f u (inr a) h =
       let q : nat_eq t.key u.key ≡ false = other ts t.key u o a in
@@ -224,7 +224,7 @@ module _ (rank : Sym → ℕ) (table : List Definition) (is_theorem : ℕ → Bo
   names_more ts t h m u (inr a) = m u a
 
   -- all of them, in order
-  reported : (done : List ℕ) (ts us : List Theorem) → Have done ts → Names ts → Fresh done ts → InOrder rank table is_theorem ts us → (t : Theorem) → IsReported table is_theorem answer done us t → Derived t
+  reported : (done : List ℕ) (ts us : List Theorem) → Reports done ts → Names ts → Fresh done ts → InOrder rank table is_theorem ts us → (t : Theorem) → IsReported table is_theorem answer done us t → Derived t
   reported done ts [] k m f r t h = absurd h
   reported done ts (u ∷ us) k m f r t (inl h) = subst (λ (z : Theorem). Derived z) h.0 (this_theorem done ts us u k m r h.1)
   reported done ts (u ∷ us) k m f r t (inr h) =

@@ -153,7 +153,7 @@ module _ (rank : Sym → ℕ) (table : List Definition) (may : ℕ → Bool) whe
 
   module _ (expands : ExpandsAll (expansion table) table) (falling : IsFalling rank (expansion table)) where
     pub full_good : (n : ℕ) (e : Tree) → Good n e → Good n (whole table e)
-    full_good n e h = Good-whole table may rank expands falling n e h
+    full_good n e h = Good-full table may rank expands falling n e h
 
     close_all : (n : ℕ) (x : Sym) (r : Tree) (g : List Tree) (k : List Entry) → IsNew rank table n x → IsClosed r → Good n (all_ (abstract x r)) → Keeps n g k → Der g (whole table r ∷ []) → Der g (whole table (all_ (abstract x r)) ∷ [])
     close_all n x r g k h cr q w d =

@@ -1,5 +1,5 @@
 -- Laws of proofs. Each statement is the contract of a function of src/laws.rt.
-use Rattle.std.specs.Prelude.{◌≡◌, ℕ, Bool, Option, List, [], ◌∷◌, map}
+use Rattle.std.specs.Prelude.{◌≡◌, ℕ, Bool, Option, List, [], map}
 use Rattle.core_expr.specs.declared.head.Sym.{Sym}
 use Rattle.core_expr.specs.declared.canon.Canon.{Canon}
 use Rattle.core_expr.specs.Tree.{Tree}
