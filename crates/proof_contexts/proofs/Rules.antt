@@ -1,0 +1,48 @@
+-- The rules as lemmas.
+use Rattle.std.specs.Prelude.{◌≡◌, Option, map, List, [], ◌∷◌}
+use Rattle.std.proofs.Common.{refl, ap, sym, subst, inl, inr}
+use Rattle.core_expr.specs.declared.head.Sym.{Sym}
+use Rattle.core_expr.specs.Put.{sub}
+use Rattle.core_expr.specs.Tree.{Tree}
+use Rattle.seq_calculus.specs.Calculus.{Has, HasAll, AllClosed, Rule, Fits, premises, AreCorrect, Der}
+use Rattle.seq_calculus.specs.Calculus.Rule.{Ax}
+use Rattle.seq_calculus.specs.Calculus.Proof.{step}
+use Rattle.seq_calculus.specs.Calculus.Proofs.{no_more, more}
+
+pub HasAll-cons : (x : Tree) (xs fs : List Tree) → HasAll xs fs → HasAll (x ∷ xs) fs
+HasAll-cons x xs [] h = tt
+HasAll-cons x xs (f ∷ fs) h = (inr h.0, HasAll-cons x xs fs h.1)
+
+pub HasAll-itself : (xs : List Tree) → HasAll xs xs
+HasAll-itself [] = tt
+HasAll-itself (x ∷ xs) = (inl refl, HasAll-cons x xs xs (HasAll-itself xs))
+
+pub HasAll-one : (x : Tree) (xs : List Tree) → HasAll (x ∷ xs) xs
+HasAll-one x xs = HasAll-cons x xs xs (HasAll-itself xs)
+
+pub Has-all : (g xs : List Tree) (f : Tree) → HasAll g xs → Has xs f → Has g f
+Has-all g [] f h k = absurd k
+Has-all g (x ∷ xs) f h (inl e) = subst (Has g) e h.0
+Has-all g (x ∷ xs) f h (inr k) = Has-all g xs f h.1 k
+
+pub HasAll-all : (g xs ys : List Tree) → HasAll g xs → HasAll xs ys → HasAll g ys
+HasAll-all g xs [] h k = tt
+HasAll-all g xs (y ∷ ys) h k = (Has-all g xs y h k.0, HasAll-all g xs ys h k.1)
+
+Has-sub : (s : Sym → Option Tree) (g : List Tree) (f : Tree) → Has g f → Has (map (sub s) g) (sub s f)
+Has-sub s [] f h = h
+Has-sub s (x ∷ g) f (inl e) = inl (ap (sub s) e)
+Has-sub s (x ∷ g) f (inr h) = inr (Has-sub s g f h)
+
+pub HasAll-sub : (s : Sym → Option Tree) (g fs : List Tree) → HasAll g fs → HasAll (map (sub s) g) (map (sub s) fs)
+HasAll-sub s g [] h = tt
+HasAll-sub s g (f ∷ fs) h = (Has-sub s g f h.0, HasAll-sub s g fs h.1)
+
+pub by_ax : (g d : List Tree) (f : Tree) → AllClosed g → AllClosed d → Has g f → Has d f → Der g d
+by_ax g d f cg cd hg hd = (step (Ax f) no_more, (cg, cd, (hg, hd), tt))
+
+pub by_one : (r : Rule) (g d g1 d1 : List Tree) → AllClosed g → AllClosed d → Fits r g d → premises r g d ≡ record { left = g1; right = d1 } ∷ [] → Der g1 d1 → Der g d
+by_one r g d g1 d1 cg cd f e h = (step r (more h.0 no_more), (cg, cd, f, subst (AreCorrect (more h.0 no_more)) (sym e) (h.1, tt)))
+
+pub by_two : (r : Rule) (g d g1 d1 g2 d2 : List Tree) → AllClosed g → AllClosed d → Fits r g d → premises r g d ≡ record { left = g1; right = d1 } ∷ record { left = g2; right = d2 } ∷ [] → Der g1 d1 → Der g2 d2 → Der g d
+by_two r g d g1 d1 g2 d2 cg cd f e h k = (step r (more h.0 (more k.0 no_more)), (cg, cd, f, subst (AreCorrect (more h.0 (more k.0 no_more))) (sym e) (h.1, (k.1, tt))))

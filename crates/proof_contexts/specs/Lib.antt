@@ -1,0 +1,9 @@
+pub mod Expansion
+pub mod Canonical
+pub mod Steps
+pub mod Contexts
+pub mod Leaves
+pub mod Theorems
+pub mod Statuses
+pub mod Right
+pub mod Laws
