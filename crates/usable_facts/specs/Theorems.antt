@@ -52,7 +52,7 @@ module _ (entries : List Entry) where
         key = theorem_key i (number_of means w);
         known = known;
         statement = statement means entries s;
-        proof = proof_of means (symbol_at (cites_in (outline own))) entries p 0 own
+        proof = proof_of means (symbol_at (cites_in (outline own))) entries p 0 own;
       }
 
   abbrev pub unit_theorem : Means → ℕ → List Known → Place → u → List Theorem
