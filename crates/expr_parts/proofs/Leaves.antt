@@ -1,5 +1,5 @@
 -- What stands for a leaf, by what the root of a subtree shows.
-use Rattle.std.proofs.Common.{◌≡◌, ℕ, length, refl, sym, ap, ◌∙◌}
+use Rattle.std.proofs.Common.{◌≡◌, ℕ, suc, length, refl, sym, ap, ◌∙◌}
 use Rattle.std.specs.Prelude.{Option, Some, None, [], ◌∷◌}
 use Rattle.std.specs.Borrow.{Bor}
 use Rattle.std.specs.Prelude.{List}
@@ -16,7 +16,7 @@ use Rattle.expr_parts.specs.Rebuilt.{bound_for, filled_for, changed}
 
 length-list_of : (ps : Parts) → length (list_of ps) ≡ size ps
 length-list_of end = refl
-length-list_of (part e ps) = ap (λ n. n + 1) (length-list_of ps)
+length-list_of (part e ps) = ap suc (length-list_of ps)
 
 pub bind_is : (x : Tree) (c f : Sym) (n d : ℕ) → kind_of x ≡ kind.Symbol f → n ≡ length (subtrees x) → bound_for c f n d ≡ changed (Bind c) d x
 bind_is (bound i) c f n d k p = cc

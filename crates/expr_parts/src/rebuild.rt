@@ -1,6 +1,6 @@
 //! Expressions rebuilt.
 
-ghost use Rattle.std.specs.Prelude.{◌≡◌, ◌<◌, ◌≤◌, ◌-◌, ◌++◌, [], ◌∷◌, length, slice_index_or, IfOk, OnOk};
+ghost use Rattle.std.specs.Prelude.{◌≡◌, suc, ◌<◌, ◌≤◌, ◌++◌, [], ◌∷◌, length, slice_index_or, IfOk, OnOk};
 ghost use Rattle.core_expr.specs.Tree.{true_};
 ghost use Rattle.core_expr.specs.Heads.{parts_of, subtrees, IsWellFormed};
 ghost use Rattle.core_expr.specs.Flat.{rows_of};
@@ -28,6 +28,18 @@ fn inner(depth: u64, kind: RowKind) -> Result<u64, Memory>
     }
 }
 
+/// The depth of the part `k` of so many.
+fn depth_of(k: u64, count: u64, depth: u64, last: u64) -> u64
+    requires { k < count }
+    ensures last { suc k ≡ count → result ≡ last }
+    ensures others { suc k < count → result ≡ depth }
+{
+    if k == count - 1 {
+        return last;
+    }
+    depth
+}
+
 /// Puts tasks for the parts of a node on the list, that for the first part uppermost.
 fn visit_parts(tasks: &mut Vec<Task>, e: &Expr, node: u64, depth: u64) -> Result<(), Memory>
     requires inside { node < length (rows_of e.now) }
@@ -39,10 +51,9 @@ fn visit_parts(tasks: &mut Vec<Task>, e: &Expr, node: u64, depth: u64) -> Result
     let count = e.parts(node);
     let last = inner(depth, e.kind(node))?;
     for k in (0..count).rev() {
-        let under = if k + 1 == count { last } else { depth };
         tasks.push(Task::Visit {
             node: e.part(node, k),
-            depth: under,
+            depth: depth_of(k, count, depth, last),
         })?;
     }
     Ok(())
@@ -73,7 +84,7 @@ fn join(alloc: Global, e: &Expr, node: u64, built: &mut Vec<Expr>) -> Result<(),
 
 impl Work {
     /// Rebuilds the subtree at a node, or puts tasks for its parts on the list.
-    #[tactic(auto, using(crate::proofs::Walking::leaf_built, crate::proofs::Walking::parts_wait))]
+    #[tactic(auto, using(crate::proofs::Walking::leaf_built))]
     fn visit(
         &mut self,
         alloc: Global,
@@ -87,7 +98,7 @@ impl Work {
         requires formed { IsWellFormed (subtree e.now node) }
         requires gives { Gives change e.now root self.old.tasks.items
             (self.old.built.items ++ rebuilt change depth (subtree e.now node) ∷ []) }
-        ensures { OnOk result (Gives change e.now root self.new.tasks.items
+        ensures { OnOk result (Gives change.entry e.now root self.new.tasks.items
             self.new.built.items) }
     {
         shown_makes();
@@ -96,11 +107,11 @@ impl Work {
             return Ok(());
         }
         self.tasks.push(Task::Join { node })?;
-        visit_parts(&mut self.tasks, e, node, depth)
+        visit_parts(&mut self.tasks, e, node, depth)?;
+        Ok(())
     }
 
     /// Does a task that was taken off the list.
-    #[tactic(auto, using(crate::proofs::Walking::visit_next, crate::proofs::Walking::join_next))]
     fn step(
         &mut self,
         alloc: Global,
@@ -111,12 +122,18 @@ impl Work {
     ) -> Result<(), Memory>
         requires { Gives change e.now root (self.old.tasks.items ++ task ∷ [])
             self.old.built.items }
-        ensures { OnOk result (Gives change e.now root self.new.tasks.items
+        ensures { OnOk result (Gives change.entry e.now root self.new.tasks.items
             self.new.built.items) }
     {
         match task {
-            Task::Visit { node, depth } => self.visit(alloc, change, e, root, node, depth),
-            Task::Join { node } => join(alloc, e, node, &mut self.built),
+            Task::Visit { node, depth } => {
+                self.visit(alloc, change, e, root, node, depth)?;
+                Ok(())
+            }
+            Task::Join { node } => {
+                join(alloc, e, node, &mut self.built)?;
+                Ok(())
+            }
         }
     }
 }
@@ -125,7 +142,7 @@ impl Work {
 fn rebuild(alloc: Global, change: Change, e: &Expr, node: u64) -> Result<Expr, Memory>
     requires inside { node < length (rows_of e.now) }
     requires formed { IsWellFormed (subtree e.now node) }
-    ensures { IfOk result (λ r. r ≡ rebuilt change 0 (subtree e.now node)) }
+    ensures { IfOk result (λ r. r ≡ rebuilt change.entry 0 (subtree e.now node)) }
 {
     let first = Task::Visit { node, depth: 0 };
     let mut work = Work {
@@ -143,7 +160,7 @@ fn rebuild(alloc: Global, change: Change, e: &Expr, node: u64) -> Result<Expr, M
 
 /// The expression with something else for some of its leaves.
 fn rebuild_whole(alloc: Global, change: Change, e: &Expr) -> Result<Expr, Memory>
-    ensures { IfOk result (λ r. r ≡ rebuilt change 0 e.now) }
+    ensures { IfOk result (λ r. r ≡ rebuilt change.entry 0 e.now) }
 {
     last_is_root();
     rebuild(alloc, change, e, e.length() - 1)

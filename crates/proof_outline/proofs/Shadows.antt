@@ -3,7 +3,7 @@ use Rattle.std.proofs.Common.{◌≡◌, ℕ, ◌&&◌, Bool, true, false, cond,
 use Rattle.std.specs.Cmp.Lexicographic.{pointwise, bytes_decides}
 use Rattle.std.proofs.lemmas.List.{map-append}
 use Rattle.std.proofs.lemmas.Bool.{and_parts, and_from}
-use Rattle.std.proofs.lemmas.Cmp.{nat_eq-true, nat_eq-refl}
+use Rattle.core_expr.specs.Equal.{nat-same, nat-refl}
 use Rattle.indexmap.specs.IndexMap.{IndexMap, get}
 use Rattle.proof_outline.specs.declared.scope.Named.{Named}
 use Rattle.proof_outline.specs.Outline.{Name, Seen, same_name, found}
@@ -37,12 +37,12 @@ shadows-pop before (x ∷ es) e h =
     ((h.0, r.0), r.1 ∙ ap (found (name_of e.name)) (append_assoc before ((name_of x.name, x.number) ∷ []) (in_scope es)))
 
 same-self : (k : Key) → same_key k k ≡ true
-same-self k = and_from _ _ (nat_eq-refl k.0) ((bytes_decides k.1.now k.1.now).1 refl)
+same-self k = and_from _ _ (nat-refl k.0) ((bytes_decides k.1.now k.1.now).1 refl)
 
 same-name : (k q : Key) → same_key k q ≡ true → name_of k ≡ name_of q
 same-name k q h =
     let p = and_parts (nat_eq k.0 q.0) (pointwise nat_eq k.1.now q.1.now) h in
-    λ i. (nat_eq-true k.0 q.0 p.0 i, (bytes_decides k.1.now q.1.now).0 p.1 i)
+    λ i. (nat-same k.0 q.0 p.0 i, (bytes_decides k.1.now q.1.now).0 p.1 i)
 
 module _ {S : Type 0} (m n : IndexMap Key ℕ S) (es more : List Named) (e : Named) where
   pub kept-push : Kept m es → more ≡ es ++ e ∷ [] → e.shadowed ≡ get same_key m e.name

@@ -11,7 +11,34 @@ use core_expr::Memory;
 use std::alloc::Global;
 use std::marker::Model;
 use symbol_table::Symbols;
-use tla_ast::{Fact, Kind, OutlineFault, Place, Proof, Step, StepKind};
+use tla_ast::{Fact, Place, Proof, Step, StepKind};
+
+/// Why a walk stops.
+#[derive(Debug, Drop)]
+pub enum Stop<'a> {
+    /// Memory was not found.
+    Memory,
+    /// A step's name for the second time in one proof, at the second.
+    Again(Place),
+    /// A cited name that no step has that is seen there.
+    Unseen {
+        level: u128,
+        label: &'a [u8],
+        place: Place,
+    },
+}
+
+impl<'a> From<Memory> for Stop<'a> {
+    ghost use Rattle.std.specs.Prelude.{◌≡◌};
+    ghost use Rattle.proof_outline.specs.declared.walk.Stop.TheVariants as stop;
+
+    ghost from_gives = { λ _ e. e ≡ stop.Memory };
+
+    /// Want of memory.
+    fn from(_: Memory) -> Stop<'a> {
+        Stop::Memory
+    }
+}
 
 /// What is known at a place of a proof: the names that are seen, the number of the next step, and what cited names mean so far.
 #[derive(Drop)]
@@ -53,7 +80,7 @@ fn have_step(level: u128, label: &[u8], steps: &[Step]) -> bool
 
 /// Whether some step of a proof has a name.
 #[cycle(proofs)]
-fn has_step(level: u128, label: &[u8], proof: &Proof) -> bool
+pub fn has_step(level: u128, label: &[u8], proof: &Proof) -> bool
     ensures { result ≡ spec.has_step (level, label.now) (proof_of proof.now) }
 {
     match proof {
@@ -122,7 +149,7 @@ impl<'a> Walker<'a> {
     }
 
     /// A step's name is not one of an earlier step of the same proof, of which the first has this number.
-    fn fresh(&self, first: u64, step: &Step) -> Result<(), OutlineFault>
+    fn fresh(&self, first: u64, step: &Step) -> Result<(), Stop<'a>>
         ensures { visit.Does (spec.fresh first (out-Step step.now).level (out-Step step.now).label
             (out-Step step.now).place self.now) result self.now }
     {
@@ -131,41 +158,29 @@ impl<'a> Walker<'a> {
             return Ok(());
         }
         match self.find(step.level, label) {
-            Some(number) if number >= first => Err(OutlineFault::At {
-                place: step.place,
-                kind: Kind::DuplicateStep,
-            }),
+            Some(number) if number >= first => Err(Stop::Again(step.place)),
             _ => Ok(()),
         }
     }
 
     /// A cited name.
-    fn cite(
-        &mut self,
-        proof: &Proof,
-        level: u128,
-        label: &[u8],
-        place: Place,
-    ) -> Result<(), OutlineFault>
-        ensures { visit.Does (spec.cited (proof_of proof.now)
-            (spec.found (level, label.now) (spec.seen_of self.old))
-            (level, label.now) place self.old) result self.new }
+    fn cite(&mut self, level: u128, label: &'a [u8], place: Place) -> Result<(), Stop<'a>>
+        ensures { visit.Does (spec.cited (spec.found (level, label.entry.now)
+            (spec.seen_of self.old)) (level, label.entry.now) place self.old) result self.new }
     {
-        if let Some(number) = self.find(level, label) {
-            self.note(place, number)?;
-            return Ok(());
+        match self.find(level, label) {
+            Some(number) => Ok(self.note(place, number)?),
+            None => Err(Stop::Unseen {
+                level,
+                label,
+                place,
+            }),
         }
-        let kind = if has_step(level, label, proof) {
-            Kind::StepOutOfScope
-        } else {
-            Kind::UnknownStep
-        };
-        Err(OutlineFault::At { place, kind })
     }
 
     /// A fact.
-    fn fact(&mut self, proof: &Proof, fact: &Fact) -> Result<(), OutlineFault>
-        ensures { visit.Does (spec.fact_names (proof_of proof.now) (fact_of fact.now) self.old)
+    fn fact(&mut self, fact: &'a Fact) -> Result<(), Stop<'a>>
+        ensures { visit.Does (spec.fact_names (fact_of fact.entry.now) self.old)
             result self.new }
     {
         match fact {
@@ -173,63 +188,59 @@ impl<'a> Walker<'a> {
                 level,
                 label,
                 place,
-            } => self.cite(proof, *level, label.bytes(), *place),
+            } => self.cite(*level, label.bytes(), *place),
             _ => Ok(()),
         }
     }
 
     /// Facts, one after another.
-    fn facts(&mut self, proof: &Proof, facts: &[Fact]) -> Result<(), OutlineFault>
-        ensures { visit.Does (spec.facts_names (proof_of proof.now) (map fact_of facts.now)
-            self.old) result self.new }
+    fn facts(&mut self, facts: &'a [Fact]) -> Result<(), Stop<'a>>
+        ensures { visit.Does (spec.facts_names (map fact_of facts.entry.now) self.old)
+            result self.new }
     {
         for fact in facts {
-            self.fact(proof, fact)?;
+            self.fact(fact)?;
         }
         Ok(())
     }
 
     /// What a step cites itself.
-    fn step_kind(&mut self, proof: &Proof, kind: &StepKind) -> Result<(), OutlineFault>
-        ensures { visit.Does (spec.move_names (proof_of proof.now) (move_of kind.now)
-            self.old) result self.new }
+    fn step_kind(&mut self, kind: &'a StepKind) -> Result<(), Stop<'a>>
+        ensures { visit.Does (spec.move_names (move_of kind.entry.now) self.old) result self.new }
     {
         match kind {
-            StepKind::Add { facts, defs: _ } => self.facts(proof, facts.as_slice()),
-            StepKind::Hide { facts, defs: _ } => self.facts(proof, facts.as_slice()),
+            StepKind::Add { facts, defs: _ } => self.facts(facts.as_slice()),
+            StepKind::Hide { facts, defs: _ } => self.facts(facts.as_slice()),
             _ => Ok(()),
         }
     }
 
     /// A step and its proof, in a proof whose first step has this number.
     #[cycle(proofs)]
-    fn step(&mut self, proof: &Proof, first: u64, step: &'a Step) -> Result<(), OutlineFault>
-        ensures { visit.Does (visit.step_names (proof_of proof.now) first step.now self.old)
-            result self.new }
+    fn step(&mut self, first: u64, step: &'a Step) -> Result<(), Stop<'a>>
+        ensures { visit.Does (visit.step_names first step.entry.now self.old) result self.new }
     {
         self.fresh(first, step)?;
-        self.step_kind(proof, &step.kind)?;
+        self.step_kind(&step.kind)?;
         self.enter(step.level, step.label.bytes())?;
-        self.proof(proof, &step.proof)
+        self.proof(&step.proof)
     }
 
     /// Steps, one after another, in a proof whose first step has this number.
     #[cycle(proofs)]
-    fn steps(&mut self, proof: &Proof, first: u64, steps: &'a [Step]) -> Result<(), OutlineFault>
-        ensures { visit.Does (visit.each_step (proof_of proof.now) first steps.now self.old)
-            result self.new }
+    fn steps(&mut self, first: u64, steps: &'a [Step]) -> Result<(), Stop<'a>>
+        ensures { visit.Does (visit.each_step first steps.entry.now self.old) result self.new }
     {
         for step in steps {
-            self.step(proof, first, step)?;
+            self.step(first, step)?;
         }
         Ok(())
     }
 
-    /// A proof, of a step or of the theorem; `root` is the theorem's. The names of its steps are not seen after it.
+    /// A proof, of a step or of a theorem. The names of its steps are not seen after it.
     #[cycle(proofs)]
-    pub fn proof(&mut self, root: &Proof, proof: &'a Proof) -> Result<(), OutlineFault>
-        ensures { visit.Does (spec.proof_names (proof_of root.now) (proof_of proof.now) self.old)
-            result self.new }
+    pub fn proof(&mut self, proof: &'a Proof) -> Result<(), Stop<'a>>
+        ensures { visit.Does (spec.proof_names (proof_of proof.entry.now) self.old) result self.new }
     {
         match proof {
             Proof::By {
@@ -237,11 +248,11 @@ impl<'a> Walker<'a> {
                 only: _,
                 facts,
                 defs: _,
-            } => self.facts(root, facts.as_slice()),
+            } => self.facts(facts.as_slice()),
             Proof::Steps(steps) => {
                 let mark = self.mark();
                 let first = self.next();
-                self.steps(root, first, steps.as_slice())?;
+                self.steps(first, steps.as_slice())?;
                 self.leave(mark);
                 Ok(())
             }

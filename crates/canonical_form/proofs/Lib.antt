@@ -1,0 +1,5 @@
+pub mod Symbols
+pub mod Facts
+pub mod Gathering
+pub mod Variables
+pub mod Numbers

@@ -1,0 +1,3 @@
+pub mod Shown
+pub mod Grown
+pub mod Clean
