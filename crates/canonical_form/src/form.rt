@@ -1,11 +1,9 @@
 //! The canonical form.
 
-ghost use Rattle.std.specs.Prelude.{◌≡◌, [], map, IfOk, OnOk};
-ghost use Rattle.core_expr.specs.Put.{sub};
-ghost use Rattle.core_expr.specs.Rename.{named};
+ghost use Rattle.std.specs.Prelude.{◌≡◌, [], map, IfOk};
 ghost use Rattle.obligation.specs.Unfolding.{unfolded};
-ghost use Rattle.proof_contexts.specs.Canonical.{obligation_canon, distinct, each_gathered, symbols_of, numbered_canon};
-ghost use Rattle.canonical_form.specs.Named.{facts_of, names_of};
+ghost use Rattle.proof_contexts.specs.Canonical.{obligation_canon, distinct, symbols_of, numbered, numbered_canon};
+ghost use Rattle.canonical_form.specs.Named.{pairs_from, names_of, Covers, CoversAll};
 
 use crate::gather::{gather, gather_each};
 use crate::pairs::pairs_of;
@@ -40,15 +38,38 @@ fn distinct_facts(
     Ok(found)
 }
 
-/// The expressions renamed.
-fn rename_all(alloc: Global, es: &[Expr], by: &[(Sym, Expr)]) -> Result<Items<Expr>, Memory>
-    ensures { IfOk result (λ r. r ≡ map (sub (named by.now)) es.now) }
+/// The expression over canonical symbols.
+#[tactic(auto, using(crate::proofs::Numbers::renamed_is))]
+fn number(
+    alloc: Global,
+    e: &Expr,
+    symbols: &[Sym],
+    by: &[(Sym, Expr)],
+) -> Result<Expr, Memory>
+    requires pairs { by.now ≡ pairs_from 0 symbols.now }
+    requires covered { Covers symbols.now e.now }
+    ensures { IfOk result (λ r. r ≡ numbered symbols.now e.now) }
 {
-    let mut renamed = Items::new(alloc);
+    let _ = e.length();
+    e.rename(alloc, by)
+}
+
+/// The expressions over canonical symbols.
+fn number_all(
+    alloc: Global,
+    es: &[Expr],
+    symbols: &[Sym],
+    by: &[(Sym, Expr)],
+) -> Result<Items<Expr>, Memory>
+    requires pairs { by.now ≡ pairs_from 0 symbols.now }
+    requires covered { CoversAll symbols.now es.now }
+    ensures { IfOk result (λ r. r ≡ map (numbered symbols.now) es.now) }
+{
+    let mut numbered = Items::new(alloc);
     for e in es {
-        renamed.push(e.rename(alloc, by)?)?;
+        numbered.push(number(alloc, e, symbols, by)?)?;
     }
-    Ok(renamed)
+    Ok(numbered)
 }
 
 /// The symbols of facts and a goal, by first occurrence in prefix order.
@@ -62,7 +83,7 @@ fn symbols_of(alloc: Global, facts: &[Expr], goal: &Expr) -> Result<IndexSet<Sym
 }
 
 /// The canonical form over these symbols, which hold all symbols of the facts and the goal.
-#[tactic(auto, using(crate::proofs::Numbers::canon_is))]
+#[tactic(auto, using(crate::proofs::Covering::facts_covered, crate::proofs::Covering::goal_covered))]
 fn form_over(
     alloc: Global,
     symbols: &[Sym],
@@ -72,11 +93,10 @@ fn form_over(
     requires { symbols.now ≡ symbols_of facts.now goal.now }
     ensures { IfOk result (λ c. c ≡ numbered_canon symbols.now facts.now goal.now) }
 {
-    let _ = goal.length();
     let by = pairs_of(alloc, symbols)?;
     Ok(Canon {
-        facts: rename_all(alloc, facts, by.as_slice())?,
-        goal: goal.rename(alloc, by.as_slice())?,
+        facts: number_all(alloc, facts, symbols, by.as_slice())?,
+        goal: number(alloc, goal, symbols, by.as_slice())?,
     })
 }
 

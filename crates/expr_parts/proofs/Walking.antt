@@ -24,6 +24,10 @@ use Rattle.expr_parts.specs.Walk.{joined, inner, parts_rebuilt, done, finish, Is
 pub fits_here : ShownFits → (x : Tree) (h : ℕ) (f : Option Sym) (ns : List ℕ) (n : ℕ) → IsWellFormed x → h ≡ kind_number (kind_of x) → f ≡ kind_symbol (kind_of x) → ns ≡ root_numbers x → n ≡ length (subtrees x) → IsTrue (fits h f ns n)
 fits_here shown x h f ns n w a b c d = rw (a, b, c, d) (shown x w)
 
+pub none-there : (o : Option Tree) → ((x : Tree) → o ≡ Some x → ⊥) → o ≡ None
+none-there None h = refl
+none-there (Some x) h = absurd (h x refl)
+
 module _ (c : Change) where
   -- ---- a node over its rebuilt parts
 

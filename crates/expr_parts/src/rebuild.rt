@@ -189,5 +189,20 @@ pub fn part(alloc: Global, e: &Expr, k: u64) -> Result<Expr, Memory>
     ensures { IfOk result (λ r. r ≡ slice_index_or (subtrees e.now) k true_) }
 {
     last_is_root();
-    rebuild(alloc, Change::Keep, e, e.part(e.length() - 1, k))
+    let root = e.length() - 1;
+    let _count = e.parts(root);
+    rebuild(alloc, Change::Keep, e, e.part(root, k))
+}
+
+/// The parts of the root; a binder's body is the last.
+pub fn parts(alloc: Global, e: &Expr) -> Result<Vec<Expr>, Memory>
+    ensures { IfOk result (λ v. v.items ≡ subtrees e.now) }
+{
+    last_is_root();
+    let root = e.length() - 1;
+    let mut found = Vec::new(alloc);
+    for k in 0..e.parts(root) {
+        found.push(part(alloc, e, k)?)?;
+    }
+    Ok(found)
 }

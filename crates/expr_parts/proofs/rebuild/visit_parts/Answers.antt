@@ -1,4 +1,4 @@
-use Rattle.std.proofs.Common.{◌≡◌, suc, ◌-◌, sym, subst, ◌∙◌, arith}
+use Rattle.std.proofs.Common.{◌-◌, ap, sym, subst, ◌∙◌, arith}
 use Rattle.core_expr.specs.Heads.{subtrees}
 use Rattle.core_expr.specs.Places.{subtree, kind_of}
 use Rattle.expr_parts.specs.Walk.{inner, parts_rebuilt, Builds}
@@ -17,5 +17,6 @@ loop-k-preserved c = λ k.
     let n = c.parts-count.ensures.tree in
     let t = c.loop-k-test.true in
     part-waits k c.args.e.now c.args.node c.args.depth (inner c.args.depth (kind_of x)) c.depth_of.result c.part.result (c.loop-k.k - 1) c.loop-k.k
-    c.args.tasks.now.items c.loop-k.tasks.items c.push.new.self.items ? ? ? ?
+    c.args.tasks.now.items c.loop-k.tasks.items c.push.new.self.items (omega (arith, t)) (omega (arith, t, n, c.loop-k.auto.k))
+    (λ q. c.depth_of.ensures.last (omega (arith, t, n, q)) ∙ c.in_ok-last.ensures ∙ ap (inner c.args.depth) c.kind.ensures.tree) (λ q. c.depth_of.ensures.others (omega (arith, t, n, q)))
     c.requires.inside c.requires.formed c.part.ensures.before c.part.ensures.tree c.in_ok-push.ensures.items (c.loop-k.invariant k)
