@@ -1,5 +1,5 @@
 -- Formulas that nothing temporal comes out of, however definitions are unfolded.
-use Rattle.std.specs.Prelude.{ℕ, Bool, true, false, ◌||◌, not, if◌then◌else◌, nat_eq, List, [], ◌∷◌, ◌++◌, fold}
+use Rattle.std.specs.Prelude.{ℕ, Bool, false, ◌||◌, if◌then◌else◌, List, [], ◌∷◌, ◌++◌, fold}
 use Rattle.std.specs.List.{list_any}
 use Rattle.core_expr.specs.declared.row.Row.{Row}
 use Rattle.core_expr.specs.declared.row.RowKind.{RowKind}
@@ -7,8 +7,9 @@ use Rattle.core_expr.specs.declared.row.RowKind.TheVariants.{Bound, Symbol, Plai
 use Rattle.core_expr.specs.Tree.{Tree}
 use Rattle.core_expr.specs.Flat.{rows_of}
 use Rattle.obligation.specs.declared.obligation.Definition.{Definition}
-use Rattle.proof_contexts.specs.Expansion.{has_number}
-use Rattle.proof_contexts.specs.Leaves.{is_mark}
+use Rattle.proof_contexts.specs.Expansion.{has_number, full}
+use Rattle.proof_contexts.specs.Contexts.{unfolded_by}
+use Rattle.proof_contexts.specs.Leaves.{is_mark, has_mark}
 
 -- a node is the temporal mark, or the symbol of a definition with one of these numbers
 abbrev pub is_suspect : List ℕ → RowKind → Bool
@@ -28,3 +29,7 @@ with_suspect ns d = if has_suspect ns d.body then ns ++ d.symbol.number ∷ [] e
 -- these numbers, and those of the definitions out of which something temporal may come, by numbers before them alone
 abbrev pub suspects : List ℕ → List Definition → List ℕ
 suspects ns ds = fold with_suspect ns ds
+
+-- the formula is temporal, fully expanded or with the definitions of these numbers unfolded
+abbrev pub is_temporal_one : List Definition → List ℕ → Tree → Bool
+is_temporal_one table u e = has_mark (full table e) || has_mark (unfolded_by table u e)

@@ -21,7 +21,7 @@ pub(crate) struct Known {
 }
 
 /// Whether a number is among others.
-fn is_among(numbers: &[u64], number: u64) -> bool
+pub(crate) fn is_among(numbers: &[u64], number: u64) -> bool
     ensures { result ≡ has_number numbers.now number }
 {
     for other in numbers {
