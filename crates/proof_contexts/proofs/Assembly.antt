@@ -188,14 +188,15 @@ module _ (rank : Sym → ℕ) (table : List Definition) (may : ℕ → Bool) (ex
     prove (Stepped ss) n c r h g w q = prove_steps ss n c r h g w q
 
     prove_steps : (ss : Steps) (n : ℕ) (c : Context) → RightSteps rank table may ss n → AreProved (step_leaves table ss c) → Proves rank table may n c
-    prove_steps (Qed p) n c r h = prove p n c r h
+    prove_steps (Qed p) n c r h = lower n r.0 c r.1 (prove p r.0 c r.2 h)
     prove_steps (Next pl s ss) n c r h =
         let first : List Leaf = sub_leaves table s c ++ own_leaves table pl s c in
         let last : List Leaf = given (after table s c) (a_leaf pl kind.Shape ∷ []) (λ d. step_leaves table ss d) in
         let here = AreProved-left first last h in
-        prove_step pl s n c r.0 (AreProved-left (sub_leaves table s c) (own_leaves table pl s c) here) (AreProved-right (sub_leaves table s c) (own_leaves table pl s c) here)
-        (rest_of pl (Proves rank table may (level_after rank table n s)) (after table s c) (λ d. step_leaves table ss d) (AreProved-right first last h)
-        (λ d k. lower (level_after rank table n s) r.1.0 d r.1.1 (prove_steps ss r.1.0 d r.1.2 k)))
+        lower n r.0 c r.1
+        (prove_step pl s r.0 c r.2 (AreProved-left (sub_leaves table s c) (own_leaves table pl s c) here) (AreProved-right (sub_leaves table s c) (own_leaves table pl s c) here)
+        (rest_of pl (Proves rank table may (level_after rank table r.0 s)) (after table s c) (λ d. step_leaves table ss d) (AreProved-right first last h)
+        (λ d k. prove_steps ss (level_after rank table r.0 s) d r.3 k)))
 
     prove_step : (pl : Place) (s : Step) (n : ℕ) (c : Context) → RightStep rank table may s n → AreProved (sub_leaves table s c) → AreProved (own_leaves table pl s c) → OnAfter (after table s c) (Proves rank table may (level_after rank table n s)) → Proves rank table may n c
     prove_step pl (Assert l s p) n c r hs ho h g w q =

@@ -66,9 +66,9 @@ module _ (rank : Sym → ℕ) (table : List Definition) (may : ℕ → Bool) whe
     proof_may (Stepped ss) n r h = steps_may ss n r h
 
     steps_may : (ss : Steps) (n : ℕ) → RightSteps rank table (λ _. true) ss n → all_may may (cites_steps ss) ≡ true → RightSteps rank table may ss n
-    steps_may (Qed p) n r h = proof_may p n r h
+    steps_may (Qed p) n r h = (r.0, r.1, proof_may p r.0 r.2 h)
     steps_may (Next p s ss) n r h =
-        (step_may s n r.0 (may_left may (cites_step s) (cites_steps ss) h), (r.1.0, r.1.1, steps_may ss r.1.0 r.1.2 (may_right may (cites_step s) (cites_steps ss) h)))
+        (r.0, r.1, step_may s r.0 r.2 (may_left may (cites_step s) (cites_steps ss) h), steps_may ss _ r.3 (may_right may (cites_step s) (cites_steps ss) h))
 
     step_may : (s : Step) (n : ℕ) → RightStep rank table (λ _. true) s n → all_may may (cites_step s) ≡ true → RightStep rank table may s n
     step_may (Assert l s p) n r h = (r.0, (r.1.0, r.1.1, proof_may p r.1.0 r.1.2 h))

@@ -73,7 +73,8 @@ module _ (rank : Sym → ℕ) (table : List Definition) (may : ℕ → Bool) whe
   RightFacts n (Cited x ∷ fs) = (may x ≡ true) × RightFacts n fs
   RightFacts n (Plain p e ∷ fs) = IsGood rank table n e × RightFacts n fs
 
-  -- A proof over symbols below n. The level of a step's own proof, and that of the later steps, may be raised further.
+  -- A proof over symbols below n. Before each step, and before each proof, the level may be raised, as DEFINE does past what it
+  -- defines.
   abbrev mutual
     pub RightProof : Proof → ℕ → Type 0
     RightProof (Missing p) n = Unit {0}
@@ -83,8 +84,8 @@ module _ (rank : Sym → ℕ) (table : List Definition) (may : ℕ → Bool) whe
     RightProof (Stepped ss) n = RightSteps ss n
 
     pub RightSteps : Steps → ℕ → Type 0
-    RightSteps (Qed p) n = RightProof p n
-    RightSteps (Next p s ss) n = RightStep s n × ((m : ℕ) × (level_after rank table n s ≤ m) × RightSteps ss m)
+    RightSteps (Qed p) n = (m : ℕ) × (n ≤ m) × RightProof p m
+    RightSteps (Next p s ss) n = (m : ℕ) × (n ≤ m) × RightStep s m × RightSteps ss (level_after rank table m s)
 
     pub RightStep : Step → ℕ → Type 0
     RightStep (Assert l s p) n =
