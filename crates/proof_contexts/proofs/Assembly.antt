@@ -177,7 +177,7 @@ module _ (rank : Sym → ℕ) (table : List Definition) (may : ℕ → Bool) (ex
       subst (λ (z : Tree). Der g (whole table z ∷ [])) e (h g w (subst (λ (z : Tree). Good rank table may n (whole table z)) (sym e) (record { closed = cq; below = bq })))
 
   mutual
-    pub prove : (p : Proof) (n : ℕ) (c : Context) → RightProof rank table may p n → AreProved (leaves table p c) → Proves rank table may n c
+    prove : (p : Proof) (n : ℕ) (c : Context) → RightProof rank table may p n → AreProved (leaves table p c) → Proves rank table may n c
     prove (Missing pl) n c r h g w q = absurd h.0
     prove (Omitted pl) n c r h g w q = absurd h.0
     prove (Obvious pl) n c r h g w q = leaf_here pl n g c c.goal c.defs w h.0
@@ -188,33 +188,34 @@ module _ (rank : Sym → ℕ) (table : List Definition) (may : ℕ → Bool) (ex
     prove (Stepped ss) n c r h g w q = prove_steps ss n c r h g w q
 
     prove_steps : (ss : Steps) (n : ℕ) (c : Context) → RightSteps rank table may ss n → AreProved (step_leaves table ss c) → Proves rank table may n c
-    prove_steps (Qed p) n c r h = prove p n c r h
+    prove_steps (Qed p) n c r h = lower n r.0 c r.1 (prove p r.0 c r.2 h)
     prove_steps (Next pl s ss) n c r h =
         let first : List Leaf = sub_leaves table s c ++ own_leaves table pl s c in
         let last : List Leaf = given (after table s c) (a_leaf pl kind.Shape ∷ []) (λ d. step_leaves table ss d) in
         let here = AreProved-left first last h in
-        prove_step pl s n c r.0 (AreProved-left (sub_leaves table s c) (own_leaves table pl s c) here) (AreProved-right (sub_leaves table s c) (own_leaves table pl s c) here)
-        (rest_of pl (Proves rank table may (level_after rank table n s)) (after table s c) (λ d. step_leaves table ss d) (AreProved-right first last h)
-        (λ d k. lower (level_after rank table n s) r.1.0 d r.1.1 (prove_steps ss r.1.0 d r.1.2 k)))
+        lower n r.0 c r.1
+        (prove_step pl s r.0 c r.2 (AreProved-left (sub_leaves table s c) (own_leaves table pl s c) here) (AreProved-right (sub_leaves table s c) (own_leaves table pl s c) here)
+        (rest_of pl (Proves rank table may (level_after rank table r.0 s)) (after table s c) (λ d. step_leaves table ss d) (AreProved-right first last h)
+        (λ d k. prove_steps ss (level_after rank table r.0 s) d r.3 k)))
 
     prove_step : (pl : Place) (s : Step) (n : ℕ) (c : Context) → RightStep rank table may s n → AreProved (sub_leaves table s c) → AreProved (own_leaves table pl s c) → OnAfter (after table s c) (Proves rank table may (level_after rank table n s)) → Proves rank table may n c
     prove_step pl (Assert l s p) n c r hs ho h g w q =
         let f : Tree = fact_of s.items s.goal in
         let gf = full_good rank table may expands falling n f (RightItems-good rank table may fact_of n s.items s.goal r.0) in
-        let d = general rank table may expands falling l s.items n s.goal c r.0 (prove p (level_items rank table n s.items) (inside table (Assert l s p) c) r.1 hs) g w in
+        let d = general rank table may expands falling l s.items n s.goal c r.0 (lower (level_items rank table n s.items) r.1.0 (inside table (Assert l s p) c) r.1.1 (prove p r.1.0 (inside table (Assert l s p) c) r.1.2 hs)) g w in
         cut_in g (whole table f) (whole table c.goal) q.closed d
         (h (whole table f ∷ g) (Holds-add table may rank n g c.known (told l f) gf w) q)
     prove_step pl (Case l f p) n c r hs ho h g w q =
         let gf = full_good rank table may expands falling n f r.0 in
         let fg : Tree = whole table c.goal in
         let gi : Good rank table may n (imp_ (whole table f) fg) = record { closed = (gf.closed, (q.closed, tt)); below = (gf.below, (q.below, tt)) } in
-        let d = prove p n (add c (told l f)) r.1 hs (whole table f ∷ g) (Holds-add table may rank n g c.known (told l f) gf w) q in
+        let d = lower n r.1.0 (add c (told l f)) r.1.1 (prove p r.1.0 (add c (told l f)) r.1.2 hs) (whole table f ∷ g) (Holds-add table may rank n g c.known (told l f) gf w) q in
         cut_in g (imp_ (whole table f) fg) fg q.closed (imp_r g (whole table f) fg d)
         (h (imp_ (whole table f) fg ∷ g) (Holds-add table may rank n g c.known (told l (imp_ f c.goal)) gi w) q)
     prove_step pl (Suffices l s p) n c r hs ho h g w q =
         let f : Tree = fact_of s.items s.goal in
         let gf = full_good rank table may expands falling n f (RightItems-good rank table may fact_of n s.items s.goal r.0) in
-        let d = prove p n (add c (usable l f)) r.1 hs (whole table f ∷ g) (Holds-add table may rank n g c.known (usable l f) gf w) q in
+        let d = lower n r.1.0 (add c (usable l f)) r.1.1 (prove p r.1.0 (add c (usable l f)) r.1.2 hs) (whole table f ∷ g) (Holds-add table may rank n g c.known (usable l f) gf w) q in
         cut_in g (whole table f) (whole table c.goal) q.closed (general rank table may expands falling l s.items n s.goal c r.0 h g w) d
     prove_step pl (Have l f) n c r hs ho h g w q = have_step pl n l f c r (as_imp (top table c)) refl ho h g w q
     prove_step pl (Take x) n c r hs ho h g w q = take_step n x c r (as_all (top table c)) refl h g w q
@@ -225,7 +226,7 @@ module _ (rank : Sym → ℕ) (table : List Definition) (may : ℕ → Bool) (ex
         let y : Tree = whole table c.goal in
         let x : Tree = picked is f in
         let gx = full_good rank table may expands falling n x (RightItems-good rank table may picked n is f r.0) in
-        let d = prove p n (with_goal c x) r.1 hs g w gx in
+        let d = lower n r.1.0 (with_goal c x) r.1.1 (prove p r.1.0 (with_goal c x) r.1.2 hs) g w gx in
         cut_in g (whole table x) y q.closed d
         (picking rank table may expands falling l is n f c y r.0 q.below (λ g1 w1 b. pick_rest (level_items rank table n is) l is f c h g1 w1 q.closed b) g w)
     prove_step pl (Define u) n c r hs ho h g w q = h g w q
@@ -233,3 +234,7 @@ module _ (rank : Sym → ℕ) (table : List Definition) (may : ℕ → Bool) (ex
         cut_plains rank table may expands falling n c.known (c.defs ++ u) (whole table c.goal) fs g q.closed r ho w
         (λ g1 a w1 b. h g1 (record { closed = w1.closed; below = w1.below; covers = use_covered table may rank g1 n l fs c.known r w1.covers b }) q)
     prove_step pl (Hide xs u) n c r hs ho h g w q = h g (record { closed = w.closed; below = w.below; covers = Covers-hidden table may g xs c.known w.covers }) q
+
+  -- of a proof at a raised level
+  pub raised : (p : Proof) (n : ℕ) (c : Context) → (m : ℕ) × (n ≤ m) × RightProof rank table may p m → AreProved (leaves table p c) → Proves rank table may n c
+  raised p n c r h = lower n r.0 c r.1 (prove p r.0 c r.2 h)

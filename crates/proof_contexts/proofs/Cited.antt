@@ -16,7 +16,7 @@ use Rattle.proof_contexts.proofs.Putting.{expansion, whole, ExpandsAll, IsFallin
 use Rattle.proof_contexts.proofs.Joins.{AllBelow, cut_in, widen}
 use Rattle.proof_contexts.proofs.Covering.{Reached, reached, Covers}
 use Rattle.proof_contexts.proofs.StepLaws.{RightItems-good, full_good, general}
-use Rattle.proof_contexts.proofs.Assembly.{prove}
+use Rattle.proof_contexts.proofs.Assembly.{raised}
 
 lone : (k x : ℕ) → nat_eq k x || false ≡ true → k ≡ x
 lone k x h = go (nat_eq k x) refl h
@@ -86,5 +86,5 @@ module _ (rank : Sym → ℕ) (table : List Definition) (may : ℕ → Bool) (ex
       cut_earlier n (assumed table t) (whole table (fact t)) t.known (assumed table t) q.closed r.known s (HasAll-itself (assumed table t)) (HasAll-itself (assumed table t)) w.0 w.1
       (λ g1 i c1 b1 v.
       general rank table may expands falling None t.statement.items n t.statement.goal (before_it t) r.statement
-      (prove rank table may expands falling t.proof (level_items rank table n t.statement.items) (start t) r.proof p)
+      (raised rank table may expands falling t.proof (level_items rank table n t.statement.items) (start t) r.proof p)
       g1 (record { closed = c1; below = b1; covers = v }))

@@ -66,20 +66,20 @@ module _ (rank : Sym → ℕ) (table : List Definition) (may : ℕ → Bool) whe
     proof_may (Stepped ss) n r h = steps_may ss n r h
 
     steps_may : (ss : Steps) (n : ℕ) → RightSteps rank table (λ _. true) ss n → all_may may (cites_steps ss) ≡ true → RightSteps rank table may ss n
-    steps_may (Qed p) n r h = proof_may p n r h
+    steps_may (Qed p) n r h = (r.0, r.1, proof_may p r.0 r.2 h)
     steps_may (Next p s ss) n r h =
-        (step_may s n r.0 (may_left may (cites_step s) (cites_steps ss) h), (r.1.0, r.1.1, steps_may ss r.1.0 r.1.2 (may_right may (cites_step s) (cites_steps ss) h)))
+        (r.0, r.1, step_may s r.0 r.2 (may_left may (cites_step s) (cites_steps ss) h), steps_may ss _ r.3 (may_right may (cites_step s) (cites_steps ss) h))
 
     step_may : (s : Step) (n : ℕ) → RightStep rank table (λ _. true) s n → all_may may (cites_step s) ≡ true → RightStep rank table may s n
-    step_may (Assert l s p) n r h = (r.0, proof_may p _ r.1 h)
-    step_may (Case l f p) n r h = (r.0, proof_may p n r.1 h)
-    step_may (Suffices l s p) n r h = (r.0, proof_may p n r.1 h)
+    step_may (Assert l s p) n r h = (r.0, (r.1.0, r.1.1, proof_may p r.1.0 r.1.2 h))
+    step_may (Case l f p) n r h = (r.0, (r.1.0, r.1.1, proof_may p r.1.0 r.1.2 h))
+    step_may (Suffices l s p) n r h = (r.0, (r.1.0, r.1.1, proof_may p r.1.0 r.1.2 h))
     step_may (Have l f) n r h = r
     step_may (Take x) n r h = r
     step_may (TakeIn l x s) n r h = r
     step_may (Witness t) n r h = r
     step_may (WitnessIn l t s) n r h = r
-    step_may (Pick l is f p) n r h = (r.0, proof_may p n r.1 h)
+    step_may (Pick l is f p) n r h = (r.0, (r.1.0, r.1.1, proof_may p r.1.0 r.1.2 h))
     step_may (Define u) n r h = tt
     step_may (Use l fs u) n r h = facts_may n fs r h
     step_may (Hide xs u) n r h = tt
@@ -184,7 +184,7 @@ module _ (rank : Sym → ℕ) (table : List Definition) (is_theorem : ℕ → Bo
       let w = r.1 in
       let p = status_proved may (cites t.proof) (worst (verdicts table is_theorem answer t)) h in
       assembled rank table may (expands rank table ordered) (falls rank table ordered) w.0 t
-      (record { known = w.1.known; statement = w.1.statement; proof = proof_may rank table may t.proof _ w.1.proof p.1 })
+      (record { known = w.1.known; statement = w.1.statement; proof = (w.1.proof.0, w.1.proof.1, proof_may rank table may t.proof w.1.proof.0 w.1.proof.2 p.1) })
       (leaves_proved (theorem_leaves table t) (all_proved (verdicts table is_theorem answer t) (none_else (verdicts table is_theorem answer t) p.0)))
       (sources_of done ts t t.known k m r.0 w.0 w.1)
 

@@ -73,7 +73,8 @@ module _ (rank : Sym → ℕ) (table : List Definition) (may : ℕ → Bool) whe
   RightFacts n (Cited x ∷ fs) = (may x ≡ true) × RightFacts n fs
   RightFacts n (Plain p e ∷ fs) = IsGood rank table n e × RightFacts n fs
 
-  -- A proof over symbols below n. A step may raise the level further, as DEFINE does past what it defines.
+  -- A proof over symbols below n. Before each step, and before each proof, the level may be raised, as DEFINE does past what it
+  -- defines.
   abbrev mutual
     pub RightProof : Proof → ℕ → Type 0
     RightProof (Missing p) n = Unit {0}
@@ -83,20 +84,22 @@ module _ (rank : Sym → ℕ) (table : List Definition) (may : ℕ → Bool) whe
     RightProof (Stepped ss) n = RightSteps ss n
 
     pub RightSteps : Steps → ℕ → Type 0
-    RightSteps (Qed p) n = RightProof p n
-    RightSteps (Next p s ss) n = RightStep s n × ((m : ℕ) × (level_after rank table n s ≤ m) × RightSteps ss m)
+    RightSteps (Qed p) n = (m : ℕ) × (n ≤ m) × RightProof p m
+    RightSteps (Next p s ss) n = (m : ℕ) × (n ≤ m) × RightStep s m × RightSteps ss (level_after rank table m s)
 
     pub RightStep : Step → ℕ → Type 0
     RightStep (Assert l s p) n =
-        RightItems rank table fact_of n s.items s.goal × RightProof p (level_items rank table n s.items)
-    RightStep (Case l f p) n = IsGood rank table n f × RightProof p n
-    RightStep (Suffices l s p) n = RightItems rank table fact_of n s.items s.goal × RightProof p n
+        RightItems rank table fact_of n s.items s.goal
+        × ((m : ℕ) × (level_items rank table n s.items ≤ m) × RightProof p m)
+    RightStep (Case l f p) n = IsGood rank table n f × ((m : ℕ) × (n ≤ m) × RightProof p m)
+    RightStep (Suffices l s p) n =
+        RightItems rank table fact_of n s.items s.goal × ((m : ℕ) × (n ≤ m) × RightProof p m)
     RightStep (Have l f) n = IsGood rank table n f
     RightStep (Take x) n = IsNew rank table n x
     RightStep (TakeIn l x s) n = IsNew rank table n x × IsGood rank table n s
     RightStep (Witness t) n = IsGood rank table n t
     RightStep (WitnessIn l t s) n = IsGood rank table n t × IsGood rank table n s
-    RightStep (Pick l is f p) n = RightItems rank table picked n is f × RightProof p n
+    RightStep (Pick l is f p) n = RightItems rank table picked n is f × ((m : ℕ) × (n ≤ m) × RightProof p m)
     RightStep (Define u) n = Unit {0}
     RightStep (Use l fs u) n = RightFacts n fs
     RightStep (Hide xs u) n = Unit {0}
@@ -112,7 +115,7 @@ module _ (rank : Sym → ℕ) (table : List Definition) (may : ℕ → Bool) whe
   pub record RightTheorem (n : ℕ) (t : Theorem) : Type 0 where
     pub known : RightKnown n t.known
     pub statement : RightItems rank table fact_of n t.statement.items t.statement.goal
-    pub proof : RightProof t.proof (level_items rank table n t.statement.items)
+    pub proof : (m : ℕ) × (level_items rank table n t.statement.items ≤ m) × RightProof t.proof m
 
 abbrev pub Among : List Theorem → Theorem → Type 0
 Among [] t = ⊥
