@@ -1,5 +1,0 @@
-pub mod Shown
-pub mod Binding
-pub mod Grown
-pub mod Clean
-pub mod Forms
