@@ -15,19 +15,19 @@ Within xs ys = (f : Sym) → is_listed xs f ≡ true → is_listed ys f ≡ true
 
 listed-before : (xs ys : List Sym) (f : Sym) → is_listed xs f ≡ true → is_listed (xs ++ ys) f ≡ true
 listed-before [] ys f h = cc
-listed-before (x ∷ xs) ys f h = go (same_sym x f) h
+listed-before (x ∷ xs) ys f h = go (same_sym x f) (listed-before xs ys f) h
   where
-    go : (b : Bool) → (b || is_listed xs f) ≡ true → (b || is_listed (xs ++ ys) f) ≡ true
-    go true h = refl
-    go false h = listed-before xs ys f h
+    go : (b : Bool) → (is_listed xs f ≡ true → is_listed (xs ++ ys) f ≡ true) → (b || is_listed xs f) ≡ true → (b || is_listed (xs ++ ys) f) ≡ true
+    go true g h = refl
+    go false g h = g h
 
 listed-last : (xs : List Sym) (f : Sym) → is_listed (xs ++ f ∷ []) f ≡ true
 listed-last [] f = ap (λ b. b || false) (sym-refl f)
-listed-last (x ∷ xs) f = go (same_sym x f)
+listed-last (x ∷ xs) f = go (same_sym x f) (listed-last xs f)
   where
-    go : (b : Bool) → (b || is_listed (xs ++ f ∷ []) f) ≡ true
-    go true = refl
-    go false = listed-last xs f
+    go : (b : Bool) → is_listed (xs ++ f ∷ []) f ≡ true → (b || is_listed (xs ++ f ∷ []) f) ≡ true
+    go true g = refl
+    go false g = g
 
 with-more : (g : Sym) (xs : List Sym) → Within xs (with_symbol g xs)
 with-more g xs f h = go (is_listed xs g)

@@ -1,8 +1,8 @@
 -- Facts as keys of a set in order.
-use Rattle.std.specs.Prelude.{◌≡◌, Bool, true, false, ◌||◌, cond, List, [], ◌∷◌, ◌++◌}
+use Rattle.std.specs.Prelude.{◌≡◌, ℕ, zero, suc, ◌<◌, Bool, true, false, ◌||◌, cond, List, [], ◌∷◌, ◌++◌, drop, length, slice_index_or}
 use Rattle.std.specs.List.{list_any}
 use Rattle.std.specs.Bool.{one_answer}
-use Rattle.std.proofs.Common.{refl, ap, sym, ◌∙◌, append_assoc}
+use Rattle.std.proofs.Common.{refl, ap, sym, subst, ◌∙◌, append_assoc, arith}
 use Rattle.indexmap.specs.IndexSet.{insert_key}
 use Rattle.core_expr.specs.Tree.{Tree}
 use Rattle.core_expr.specs.Terms.{same}
@@ -41,3 +41,17 @@ key_distinct keys fs f = go (has_equal keys f) (list_any (same f) keys) (any-equ
         ap (λ l. keys ++ f ∷ l) (distinct-same (f ∷ keys) (keys ++ f ∷ []) fs (put-last keys f)) ∙ sym (append_assoc keys (f ∷ []) (distinct (keys ++ f ∷ []) fs))
     go true false e = cc
     go false true e = cc
+
+-- the same where the rest is what follows a place
+pub next-distinct : (all keys rest behind : List Tree) (f : Tree) (new : List Tree) → rest ≡ f ∷ behind → new ≡ insert_key same keys f → keys ++ distinct keys rest ≡ all → new ++ distinct new behind ≡ all
+next-distinct all keys rest behind f new r n h =
+    (λ i. n i ++ distinct (n i) behind) ∙ sym (key_distinct keys behind f) ∙ ap (λ l. keys ++ distinct keys l) (sym r) ∙ h
+
+from-place : {A : Type 0} (xs : List A) (i : ℕ) (x : A) → i < length xs → x ≡ slice_index_or xs i x → drop i xs ≡ x ∷ drop (suc i) xs
+from-place [] i x h s = absurd (omega arith)
+from-place (y ∷ ys) zero x h s = ap (λ z. z ∷ ys) (sym s)
+from-place (y ∷ ys) (suc i) x h s = from-place ys i x (omega arith) s
+
+-- what stands at a place and behind it
+pub place-next : {A : Type 0} (xs : List A) (i j : ℕ) (x : A) → j ≡ suc i → i < length xs → x ≡ slice_index_or xs i x → drop i xs ≡ x ∷ drop j xs
+place-next xs i j x e h s = subst (λ k. drop i xs ≡ x ∷ drop k xs) (sym e) (from-place xs i x h s)

@@ -45,8 +45,14 @@ next_gathered t before after i xs h =
     ap (λ ts. each_gathered ts xs) (waiting-last t before i) ∙ ap (each_gathered (waiting t before)) (of-root (subtree t i) xs)
     ∙ sym (ap (λ ts. each_gathered ts (met (kind_of (subtree t i)) xs)) h ∙ each-append (subtrees (subtree t i)) (waiting t before) (met (kind_of (subtree t i)) xs))
 
--- the part at a place, and those behind it
-pub drop-at : (ts : List Tree) (k : ℕ) → k < length ts → drop k ts ≡ slice_index_or ts k true_ ∷ drop (k + 1) ts
-drop-at [] k h = absurd (omega arith)
-drop-at (t ∷ ts) zero h = refl
-drop-at (t ∷ ts) (suc k) h = drop-at ts k (omega arith)
+first-of : (ts : List Tree) (k : ℕ) → k < length ts → drop k ts ≡ slice_index_or ts k true_ ∷ drop (suc k) ts
+first-of [] k h = absurd (omega arith)
+first-of (t ∷ ts) zero h = refl
+first-of (t ∷ ts) (suc k) h = first-of ts k (omega arith)
+
+-- one more part waits, before those behind it
+pub part-waits : (t x : Tree) (i k m : ℕ) (before new more : List ℕ) → m ≡ suc k → k < length (subtrees x) → subtree t i ≡ slice_index_or (subtrees x) k true_ → more ≡ new ++ i ∷ []
+    → waiting t new ≡ drop m (subtrees x) ++ waiting t before → waiting t more ≡ drop k (subtrees x) ++ waiting t before
+part-waits t x i k m before new more q l s p h =
+    ap (waiting t) p ∙ waiting-last t new i ∙ (λ j. s j ∷ h j) ∙ (λ j. slice_index_or (subtrees x) k true_ ∷ (drop (q j) (subtrees x) ++ waiting t before))
+    ∙ ap (λ us. us ++ waiting t before) (sym (first-of (subtrees x) k l))

@@ -18,12 +18,12 @@ use Rattle.canonical_form.proofs.Variables.{put-own}
 
 named-place : (n k : ℕ) (xs : List Sym) (f : Sym) → is_listed xs f ≡ true → k ≡ n + place_of xs f → named (pairs_from n xs) f ≡ Some (app (canon_sym k f.arity) (own f.arity))
 named-place n k [] f h e = cc
-named-place n k (x ∷ xs) f h e = go (same_sym x f) refl h e
+named-place n k (x ∷ xs) f h e = go (same_sym x f) refl (λ h e. named-place (suc n) k xs f h e) h e
   where
-    go : (b : Bool) → same_sym x f ≡ b → (b || is_listed xs f) ≡ true → k ≡ n + cond b 0 (suc (place_of xs f))
+    go : (b : Bool) → same_sym x f ≡ b → (is_listed xs f ≡ true → k ≡ suc n + place_of xs f → named (pairs_from (suc n) xs) f ≡ Some (app (canon_sym k f.arity) (own f.arity))) → (b || is_listed xs f) ≡ true → k ≡ n + cond b 0 (suc (place_of xs f))
         → elim b [ true ↦ Some (app (canon_sym n x.arity) (own x.arity)) | false ↦ named (pairs_from (suc n) xs) f ] ≡ Some (app (canon_sym k f.arity) (own f.arity))
-    go true s h e = let q : n ≡ k = omega (arith, e) in λ i. Some (app (canon_sym (q i) (sym-same x f s i).arity) (own (sym-same x f s i).arity))
-    go false s h e = named-place (suc n) k xs f h (omega (arith, e))
+    go true s g h e = let q : n ≡ k = omega (arith, e) in λ i. Some (app (canon_sym (q i) (sym-same x f s i).arity) (own (sym-same x f s i).arity))
+    go false s g h e = g h (omega (arith, e))
 
 size-subs : (s : Sym → Option Tree) (ps : Parts) → size (subs s ps) ≡ size ps
 size-subs s end = refl

@@ -1,5 +1,5 @@
 -- The variables that stand for the arguments of a symbol.
-use Rattle.std.proofs.Common.{◌≡◌, ℕ, zero, suc, ◌+◌, ◌-◌, ◌<◌, Bool, true, false, cond, nat_eq, nat_lt, List, [], ◌∷◌, length, refl, sym, ap, ◌∙◌, arith}
+use Rattle.std.proofs.Common.{◌≡◌, ℕ, zero, suc, ◌+◌, ◌-◌, ◌<◌, Bool, true, false, cond, nat_eq, nat_lt, List, [], ◌∷◌, ◌++◌, length, append_assoc, refl, sym, ap, ◌∙◌, arith}
 use Rattle.std.proofs.lemmas.Bool.Decides.{nat_tests}
 use Rattle.core_expr.specs.declared.head.Sym.{Sym}
 use Rattle.core_expr.specs.Tree.{Tree, Parts, size, true_}
@@ -49,3 +49,7 @@ puts-own us (part e ps) (suc n) q h =
 
 pub put-own : (g : Sym) (n : ℕ) (ps : Parts) → n ≡ size ps → put 0 ps (app g (own n)) ≡ app g ps
 put-own g n ps q = ap (app g) (puts-own ps ps n q (λ j l. refl))
+
+-- the next variable
+pub variables-from : (n m : ℕ) (found more : List Tree) → n ≡ suc m → more ≡ found ++ bound m ∷ [] → more ++ variables m ≡ found ++ variables n
+variables-from n m found more q p = ap (λ us. us ++ variables m) p ∙ append_assoc found (bound m ∷ []) (variables m) ∙ ap (λ k. found ++ variables k) (sym q)

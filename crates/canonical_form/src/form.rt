@@ -40,12 +40,7 @@ fn distinct_facts(
 
 /// The expression over canonical symbols.
 #[tactic(auto, using(crate::proofs::Numbers::renamed_is))]
-fn number(
-    alloc: Global,
-    e: &Expr,
-    symbols: &[Sym],
-    by: &[(Sym, Expr)],
-) -> Result<Expr, Memory>
+fn number(alloc: Global, e: &Expr, symbols: &[Sym], by: &[(Sym, Expr)]) -> Result<Expr, Memory>
     requires pairs { by.now ≡ pairs_from 0 symbols.now }
     requires covered { Covers symbols.now e.now }
     ensures { IfOk result (λ r. r ≡ numbered symbols.now e.now) }
@@ -84,12 +79,7 @@ fn symbols_of(alloc: Global, facts: &[Expr], goal: &Expr) -> Result<IndexSet<Sym
 
 /// The canonical form over these symbols, which hold all symbols of the facts and the goal.
 #[tactic(auto, using(crate::proofs::Covering::facts_covered, crate::proofs::Covering::goal_covered))]
-fn form_over(
-    alloc: Global,
-    symbols: &[Sym],
-    facts: &[Expr],
-    goal: &Expr,
-) -> Result<Canon, Memory>
+fn form_over(alloc: Global, symbols: &[Sym], facts: &[Expr], goal: &Expr) -> Result<Canon, Memory>
     requires { symbols.now ≡ symbols_of facts.now goal.now }
     ensures { IfOk result (λ c. c ≡ numbered_canon symbols.now facts.now goal.now) }
 {
