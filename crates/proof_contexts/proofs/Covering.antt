@@ -20,7 +20,7 @@ use Rattle.proof_contexts.specs.Steps.Fact.{Cited, Plain}
 use Rattle.proof_contexts.specs.Contexts.{Entry, names_of, usable_of, named, cited_of, used, aliases, use_facts, usable, hidden, has_any}
 use Rattle.proof_contexts.specs.Leaves.{is_temporal, obligation, leaf, IsDerived, IsProved}
 use Rattle.proof_contexts.specs.Right.{IsGood, RightFacts}
-use Rattle.proof_contexts.proofs.Rules.{HasAll-one, HasAll-sub, Has-all, HasAll-all}
+use Rattle.proof_contexts.proofs.Rules.{HasAll-one, HasAll-map, Has-all, HasAll-all}
 use Rattle.proof_contexts.proofs.Putting.{expansion, whole, ExpandsAll, chosen-expands, IsFalling, sub-unfolded, Below-more, Below-sub}
 use Rattle.proof_contexts.proofs.CanonLaws.{canon_back}
 use Rattle.proof_contexts.proofs.Joins.{AllBelow, widen}
@@ -145,7 +145,7 @@ module _ (table : List Definition) (may : ℕ → Bool) where
           let d1 = Der-sub (expansion table) (map (sub names) c.facts) (sub names c.goal ∷ []) (Der-sub names c.facts (c.goal ∷ []) d) in
           let e : whole table (sub names c.goal) ≡ whole table o.goal = ap (whole table) b.2 ∙ sub-unfolded (expansion table) o.defs o.goal x in
           let a : HasAll g (map (whole table) fs) = subst (HasAll g) (sym (each o.facts)) h in
-          let w = HasAll-sub (expansion table) fs (map (sub names) c.facts) b.1 in
+          let w = HasAll-map (whole table) fs (map (sub names) c.facts) b.1 in
           subst (λ (x : Tree). Der g (x ∷ [])) e
           (widen g (map (whole table) (map (sub names) c.facts)) (whole table (sub names c.goal)) cg
           (HasAll-all g (map (whole table) fs) (map (whole table) (map (sub names) c.facts)) a w) d1)

@@ -1,8 +1,6 @@
 -- The rules as lemmas.
-use Rattle.std.specs.Prelude.{◌≡◌, Option, map, List, [], ◌∷◌}
+use Rattle.std.specs.Prelude.{◌≡◌, map, List, [], ◌∷◌}
 use Rattle.std.proofs.Common.{refl, ap, sym, subst, inl, inr}
-use Rattle.core_expr.specs.declared.head.Sym.{Sym}
-use Rattle.core_expr.specs.Put.{sub}
 use Rattle.core_expr.specs.Tree.{Tree}
 use Rattle.seq_calculus.specs.Calculus.{Has, HasAll, AllClosed, Rule, Fits, premises, AreCorrect, Der}
 use Rattle.seq_calculus.specs.Calculus.Rule.{Ax}
@@ -29,14 +27,14 @@ pub HasAll-all : (g xs ys : List Tree) → HasAll g xs → HasAll xs ys → HasA
 HasAll-all g xs [] h k = tt
 HasAll-all g xs (y ∷ ys) h k = (Has-all g xs y h k.0, HasAll-all g xs ys h k.1)
 
-Has-sub : (s : Sym → Option Tree) (g : List Tree) (f : Tree) → Has g f → Has (map (sub s) g) (sub s f)
-Has-sub s [] f h = h
-Has-sub s (x ∷ g) f (inl e) = inl (ap (sub s) e)
-Has-sub s (x ∷ g) f (inr h) = inr (Has-sub s g f h)
+Has-map : (m : Tree → Tree) (g : List Tree) (f : Tree) → Has g f → Has (map m g) (m f)
+Has-map m [] f h = h
+Has-map m (x ∷ g) f (inl e) = inl (ap m e)
+Has-map m (x ∷ g) f (inr h) = inr (Has-map m g f h)
 
-pub HasAll-sub : (s : Sym → Option Tree) (g fs : List Tree) → HasAll g fs → HasAll (map (sub s) g) (map (sub s) fs)
-HasAll-sub s g [] h = tt
-HasAll-sub s g (f ∷ fs) h = (Has-sub s g f h.0, HasAll-sub s g fs h.1)
+pub HasAll-map : (m : Tree → Tree) (g fs : List Tree) → HasAll g fs → HasAll (map m g) (map m fs)
+HasAll-map m g [] h = tt
+HasAll-map m g (f ∷ fs) h = (Has-map m g f h.0, HasAll-map m g fs h.1)
 
 pub by_ax : (g d : List Tree) (f : Tree) → AllClosed g → AllClosed d → Has g f → Has d f → Der g d
 by_ax g d f cg cd hg hd = (step (Ax f) no_more, (cg, cd, (hg, hd), tt))
