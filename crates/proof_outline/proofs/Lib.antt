@@ -1,0 +1,2 @@
+mod Shadows
+mod Proofs

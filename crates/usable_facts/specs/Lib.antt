@@ -1,0 +1,4 @@
+pub mod Keys
+pub mod Proofs
+pub mod Definitions
+pub mod Theorems

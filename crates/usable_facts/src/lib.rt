@@ -1,0 +1,2 @@
+//! The leaves of written proofs.
+#![tactic(auto)]
