@@ -15,7 +15,7 @@ use Rattle.proof_contexts.specs.Steps.{Item}
 use Rattle.proof_contexts.specs.Steps.Item.{New, NewIn, Given}
 use Rattle.proof_contexts.specs.Contexts.{fact_of, picked}
 use Rattle.proof_contexts.specs.Right.{IsGood, RightItems}
-use Rattle.proof_contexts.proofs.Putting.{sym-itself}
+use Rattle.core_expr.proofs.Equal.{sym-refl}
 use Rattle.proof_assembly.specs.Scopes.{InScope, With, IsClosedOver, AreOver, AreNew}
 use Rattle.proof_assembly.specs.Laws.{InScopeIsRight}
 
@@ -27,7 +27,7 @@ module _ (P : InScope) (x : Sym) where
   only_name : (f : Sym) (d : ℕ) (b : Bool) → same_sym x f ≡ b → With P x f 0 → Only P (cond b (bound d) (app f end))
   only_name f d true e h = tt
   only_name f d false e (inl h) = (h, tt)
-  only_name f d false e (inr h) = absurd (no (same_sym x f) e (ap (same_sym x) h.0 ∙ sym-itself x))
+  only_name f d false e (inr h) = absurd (no (same_sym x f) e (ap (same_sym x) h.0 ∙ sym-refl x))
     where
       no : (b : Bool) → b ≡ false → b ≡ true → ⊥
       no b p q = cc

@@ -1,10 +1,7 @@
 pub mod Items
 mod Going
-mod Stated
-mod Defined
+mod Declared
 mod Shapes
-mod Steps
 mod Units
 mod Modules
-mod Sources
 mod Headline

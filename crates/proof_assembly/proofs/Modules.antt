@@ -35,9 +35,8 @@ use Rattle.proof_assembly.specs.Places.{module_places}
 use Rattle.proof_assembly.specs.Laws.{PlacesDiffer}
 use Rattle.proof_assembly.specs.Ranks.{rank, is_defined_kind}
 use Rattle.proof_assembly.proofs.Going.{Numbers, under, Back, refused_not, Gives, Scoped, Goes}
-use Rattle.proof_assembly.proofs.Defined.{Between, Defines, defines_none, defines_append}
-use Rattle.proof_assembly.proofs.Steps.{wide8}
-use Rattle.proof_assembly.proofs.Units.{AllRight, rights_append, known_more, known_append, KeyedUnits, UnitsRight, units_goes}
+use Rattle.proof_assembly.proofs.Declared.{Between, Defines, defines_none, defines_append}
+use Rattle.proof_assembly.proofs.Units.{wide8, AllRight, rights_append, known_more, known_append, KeyedUnits, UnitsRight, units_goes}
 
 -- ---- libraries
 
@@ -122,7 +121,7 @@ chain_of es ss (m ∷ ms) b t h = go (least (faults_of (module_names es m b))) r
   where
     go : (o : Option (Place × Kind)) → least (faults_of (module_names es m b)) ≡ o → after_module m.name (module_names es m b) o (resolved (es ++ (m.name, scope_of (module_names es m b)) ∷ []) (ss ++ symbols_of (module_names es m b) ∷ []) ms) ≡ Ok t
         → (resolved (es ++ (m.name, scope_of (module_names es m b)) ∷ []) (ss ++ symbols_of (module_names es m b) ∷ []) ms (module_names es m b) ≡ Ok t
-            → (ys : List (List (Place × ℕ))) × (t.symbols ≡ (ss ++ symbols_of (module_names es m b) ∷ []) ++ ys) × Chain (es ++ (m.name, scope_of (module_names es m b)) ∷ []) ms (module_names es m b) ys t.entries)
+        → (ys : List (List (Place × ℕ))) × (t.symbols ≡ (ss ++ symbols_of (module_names es m b) ∷ []) ++ ys) × Chain (es ++ (m.name, scope_of (module_names es m b)) ∷ []) ms (module_names es m b) ys t.entries)
         → (ys : List (List (Place × ℕ))) × (t.symbols ≡ ss ++ ys) × Chain es (m ∷ ms) b ys t.entries
     go (Some f) e h k = cc
     go None e h k =

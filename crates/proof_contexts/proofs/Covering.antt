@@ -20,7 +20,7 @@ use Rattle.proof_contexts.specs.Steps.Fact.{Cited, Plain}
 use Rattle.proof_contexts.specs.Contexts.{Entry, names_of, usable_of, named, cited_of, used, aliases, use_facts, usable, hidden, has_any}
 use Rattle.proof_contexts.specs.Leaves.{is_temporal, obligation, leaf, IsDerived, IsProved}
 use Rattle.proof_contexts.specs.Right.{IsGood, RightFacts}
-use Rattle.proof_contexts.proofs.Rules.{HasAll-one, HasAll-map, Has-all, HasAll-all}
+use Rattle.proof_contexts.proofs.Rules.{left_true, HasAll-one, HasAll-map, Has-all, HasAll-all}
 use Rattle.proof_contexts.proofs.Putting.{expansion, whole, ExpandsAll, chosen-expands, IsFalling, sub-unfolded, Below-more, Below-sub}
 use Rattle.proof_contexts.proofs.CanonLaws.{canon_back}
 use Rattle.proof_contexts.proofs.Joins.{AllBelow, widen}
@@ -86,10 +86,6 @@ module _ (table : List Definition) (may : ℕ → Bool) where
   aliases_covered g None fs h = tt
   aliases_covered g (Some k) [] h = tt
   aliases_covered g (Some k) (f ∷ fs) h = (reached g (record { formula = f; keys = k ∷ []; marks = []; usable = false }) h.0, aliases_covered g (Some k) fs h.1)
-
-  left_true : (a b : Bool) → a && b ≡ true → a ≡ true
-  left_true true b h = refl
-  left_true false b h = h
 
   pub Covers-hidden : (g : List Tree) (xs : List ℕ) (k : List Entry) → Covers g k → Covers g (map (hidden xs) k)
   Covers-hidden g xs [] c = tt

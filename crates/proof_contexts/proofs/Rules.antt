@@ -1,5 +1,5 @@
 -- The rules as lemmas.
-use Rattle.std.specs.Prelude.{◌≡◌, map, List, [], ◌∷◌}
+use Rattle.std.specs.Prelude.{◌≡◌, Bool, true, false, ◌&&◌, map, List, [], ◌∷◌}
 use Rattle.std.proofs.Common.{refl, ap, sym, subst, inl, inr}
 use Rattle.core_expr.specs.Tree.{Tree}
 use Rattle.seq_calculus.specs.Calculus.{Has, HasAll, AllClosed, Rule, Fits, premises, AreCorrect, Der}
@@ -44,3 +44,11 @@ by_one r g d g1 d1 cg cd f e h = (step r (more h.0 no_more), (cg, cd, f, subst (
 
 pub by_two : (r : Rule) (g d g1 d1 g2 d2 : List Tree) → AllClosed g → AllClosed d → Fits r g d → premises r g d ≡ record { left = g1; right = d1 } ∷ record { left = g2; right = d2 } ∷ [] → Der g1 d1 → Der g2 d2 → Der g d
 by_two r g d g1 d1 g2 d2 cg cd f e h k = (step r (more h.0 (more k.0 no_more)), (cg, cd, f, subst (AreCorrect (more h.0 (more k.0 no_more))) (sym e) (h.1, (k.1, tt))))
+
+pub left_true : (a b : Bool) → a && b ≡ true → a ≡ true
+left_true true b h = refl
+left_true false b h = h
+
+pub right_true : (a b : Bool) → a && b ≡ true → b ≡ true
+right_true true b h = h
+right_true false b h = cc
