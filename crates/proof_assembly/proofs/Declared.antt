@@ -7,7 +7,7 @@ use Rattle.core_expr.specs.Equal.{nat-same}
 use Rattle.core_expr.specs.declared.head.Sym.{Sym}
 use Rattle.core_expr.specs.declared.head.SymKind.{SymKind}
 use Rattle.core_expr.specs.declared.head.SymKind.TheVariants as kinds
-use Rattle.core_expr.specs.Tree.{Tree, true_}
+use Rattle.core_expr.specs.Tree.{Tree}
 use Rattle.core_expr.specs.Terms.{kind_code, same_sym}
 use Rattle.tla_ast.specs.declared.place.Place.{Place}
 use Rattle.tla_ast.specs.declared.tree.Decl.{Decl}
@@ -23,31 +23,31 @@ use Rattle.symbol_table.specs.declared.entry.EntrySort.{EntrySort}
 use Rattle.symbol_table.specs.declared.entry.EntrySort.TheVariants as sorts
 use Rattle.symbol_table.specs.Symbols.{symbol_at}
 use Rattle.symbol_table.specs.Scoped.{entry_of}
-use Rattle.expression_level.specs.Levels.{declared_level, Applied, definition_level}
+use Rattle.expression_level.specs.Levels.{declared_level, definition_level}
 use Rattle.expression_level.specs.Primed.{primed_parameters}
 use Rattle.expression_level.specs.Store.{flags_of}
-use Rattle.module_scope.specs.Names.{Book, entries_of, each, fresh, entered, has_any, declare_name, alone, item_names, stated, group_sets, bind_names, chosen as choose, scope_of, symbols_of, levels_of, means, inside, names, judged, defined, definitions, judged_bodies, define, ◌>>◌}
+use Rattle.module_scope.specs.Names.{Book, entries_of, each, fresh, has_any, declare_name, alone, item_names, stated, group_sets, bind_names, chosen as choose, scope_of, levels_of, means, names, judged, defined, definitions, judged_bodies, define}
 use Rattle.prime_expand.specs.declared.both.Both.{Both}
 use Rattle.prime_expand.specs.Core.{bodies, flags_in}
 use Rattle.prime_expand.specs.Fine.{Fine, with_decls}
 use Rattle.prime_expand.specs.Laws.{Holds}
 use Rattle.scope_laws.specs.Places.{places, set_places, decl_places, definition_places}
-use Rattle.scope_laws.specs.States.{is_bound, gives, Each, Free, is_allowed}
+use Rattle.scope_laws.specs.States.{is_bound, gives, is_allowed}
 use Rattle.scope_laws.proofs.Named.{clash, Result, body_walk}
 use Rattle.scope_laws.specs.Laws.{body_names}
 use Rattle.scope_laws.proofs.Walks.{each_map}
 use Rattle.scope_laws.proofs.Fitting.{bodies_are_in_scope}
 use Rattle.proof_contexts.specs.Steps.{Item as item}
-use Rattle.proof_contexts.specs.Right.{IsNew, level_items, IsFirst, AreOrdered}
+use Rattle.proof_contexts.specs.Right.{level_items, IsFirst, AreOrdered}
 use Rattle.proof_contexts.specs.Expansion.{IsBelow}
 use Rattle.proof_contexts.proofs.Putting.{Below-more}
 use Rattle.usable_facts.specs.Proofs.{symbol, core, items, chosen}
-use Rattle.usable_facts.specs.Definitions.{a_definition, of_level, numbered, each_definition}
+use Rattle.usable_facts.specs.Definitions.{of_level, numbered, each_definition}
 use Rattle.proof_assembly.specs.Places.{items_places, statement_places, named_places, group_places, chosen_places}
 use Rattle.proof_assembly.specs.Scopes.{InScope, With, IsClosedOver, AreOver, AreNew}
 use Rattle.proof_assembly.specs.Ranks.{rank, is_defined_kind}
 use Rattle.proof_assembly.proofs.Items.{Only-more, Only-below}
-use Rattle.proof_assembly.proofs.Going.{Numbers, under, sy, Back, meant, Scoped, Goes, same, Enters, goes_self, goes_then, goes_as, goes_numbers, fresh_is, entered_goes, alone_goes, in_scope, Any, any, Gives, of_result, known, allowed_is, final, later, scoped_after, judged_is}
+use Rattle.proof_assembly.proofs.Going.{Numbers, under, sy, Back, meant, Goes, same, Enters, goes_self, goes_then, goes_as, goes_numbers, fresh_is, entered_goes, alone_goes, in_scope, Any, any, Gives, of_result, known, allowed_is, final, later, scoped_after, judged_is}
 
 -- one more number
 abbrev pub Plus : InScope → ℕ → InScope

@@ -1,35 +1,32 @@
 -- What a walk over a part of a module says of it, and of what is in scope behind it, where the walk over the module meets no fault.
-use Rattle.std.specs.Prelude.{◌≡◌, ℕ, zero, suc, ◌+◌, ◌*◌, ◌<◌, ◌≤◌, Bool, true, false, ◌||◌, ◌&&◌, ◌⊎◌, nat_eq, IsTrue, if◌then◌else◌, List, [], ◌∷◌, ◌++◌, length, take, drop, Option, Some, None}
+use Rattle.std.specs.Prelude.{◌≡◌, ℕ, zero, suc, ◌+◌, ◌<◌, ◌≤◌, Bool, true, false, ◌||◌, ◌&&◌, nat_eq, IsTrue, List, [], ◌∷◌, ◌++◌, length, drop, Option, Some, None}
 use Rattle.std.proofs.Common.{refl, ap, sym, ◌∙◌, arith, subst, inl, inr}
 use Rattle.std.proofs.Math.Seq.{get_or-append_seam}
 use Rattle.core_expr.specs.Equal.{nat-same, nat-refl}
 use Rattle.core_expr.specs.declared.head.Sym.{Sym}
 use Rattle.core_expr.specs.declared.head.SymKind.{SymKind}
-use Rattle.core_expr.specs.Tree.{Tree}
 use Rattle.tla_ast.specs.declared.place.Place.{Place}
 use Rattle.tla_ast.specs.declared.fault.Kind.{Kind}
 use Rattle.tla_ast.specs.declared.fault.Kind.TheVariants as kind
 use Rattle.plain_syntax.specs.Plain.{Text, Term}
 use Rattle.symbol_table.specs.declared.entry.Entry.{Entry}
-use Rattle.symbol_table.specs.declared.entry.EntrySort.{EntrySort}
 use Rattle.symbol_table.specs.declared.entry.EntrySort.TheVariants as sorts
 use Rattle.symbol_table.specs.Symbols.{symbol_at, noted}
 use Rattle.symbol_table.specs.Scoped.{entry_of, unlisted}
 use Rattle.expression_level.specs.Levels.{Applied, undeclared, level}
 use Rattle.module_scope.specs.Scope.{Scope, found}
-use Rattle.module_scope.specs.Names.{Book, Walk, scope_of, entries_of, levels_of, symbols_of, faults_of, means, left, with_more, inside, unseen_in, each, refused, stands, fresh, fresh_as, entered, is_library_sort, names, judged, alone, ◌>>◌}
+use Rattle.module_scope.specs.Names.{Book, Walk, scope_of, entries_of, levels_of, symbols_of, means, left, with_more, inside, unseen_in, each, refused, stands, fresh, fresh_as, entered, names, judged, alone}
 use Rattle.module_scope.specs.Names.Book.{book}
-use Rattle.prime_expand.specs.Core.{core_of}
 use Rattle.prime_expand.specs.Fine.{Fine}
 use Rattle.prime_expand.specs.Laws.{Holds, SymbolsFine}
 use Rattle.prime_expand.proofs.CoreFine.{core_over}
-use Rattle.scope_laws.specs.Places.{Has, Apart, places}
+use Rattle.scope_laws.specs.Places.{Apart, places}
 use Rattle.scope_laws.specs.States.{IsPrefix, Each, Free, Known, Later, is_bound, gives, is_allowed}
-use Rattle.scope_laws.proofs.Walks.{prefix_self, prefix_over, prefix_take, get_prefix, length_last, each_map, each_append, each_found, symbol_prefix, noted_here, noted_apart, noted_prefix, has_left, has_right, free_left, free_right}
+use Rattle.scope_laws.proofs.Walks.{prefix_self, prefix_over, prefix_take, get_prefix, length_last, each_map, each_append, symbol_prefix, noted_here, noted_apart, noted_prefix, has_left, has_right, free_left, free_right}
 use Rattle.scope_laws.proofs.Named.{Reaches, Result, IsHere, clash, refused_never, names_walk}
 use Rattle.scope_laws.proofs.Fitting.{names_are_fine}
 use Rattle.usable_facts.specs.Proofs.{core}
-use Rattle.proof_assembly.specs.Scopes.{InScope, With, IsClosedOver}
+use Rattle.proof_assembly.specs.Scopes.{InScope, IsClosedOver}
 use Rattle.proof_assembly.proofs.Items.{Only-more}
 
 -- the symbols of numbers below l

@@ -1,14 +1,12 @@
 -- Each theorem of the modules that is reported proved has its derivation: the earlier theorems that it knows are among those before
 -- it, and what they assume is assumed.
-use Rattle.std.specs.Prelude.{◌≡◌, ℕ, suc, ◌+◌, Bool, true, false, ◌||◌, ◌&&◌, ◌⊎◌, nat_eq, if◌then◌else◌, List, [], ◌∷◌, ◌++◌, length, map, Option, Some, None, ◌*◌, ◌<◌, ◌≤◌}
+use Rattle.std.specs.Prelude.{◌≡◌, ℕ, suc, ◌+◌, Bool, true, false, ◌||◌, ◌&&◌, ◌⊎◌, nat_eq, if◌then◌else◌, List, [], ◌∷◌, ◌++◌, length, map, Option, Some, None, ◌<◌, ◌≤◌}
 use Rattle.std.proofs.Common.{refl, ap, sym, ◌∙◌, arith, subst, inl, inr, append-nil, append_assoc}
-use Rattle.std.proofs.lemmas.Bool.Decides.{nat_tests}
 use Rattle.std.proofs.lemmas.List.{length-append}
 use Rattle.std_names.specs.Libraries.{is_library}
 use Rattle.core_expr.specs.Equal.{nat-refl, nat-same}
 use Rattle.core_expr.specs.Tree.{Tree}
 use Rattle.tla_ast.specs.declared.place.Place.{Place}
-use Rattle.tla_ast.specs.declared.tree.Decl.{Decl}
 use Rattle.seq_calculus.specs.Calculus.{Has, HasAll}
 use Rattle.obligation.specs.declared.obligation.Definition.{Definition}
 use Rattle.plain_syntax.specs.Plain.{Text, Unit as unit_, UnitKind as u, Module}

@@ -16,7 +16,7 @@ use Rattle.proof_contexts.specs.Steps.Item.{New, NewIn, Given}
 use Rattle.proof_contexts.specs.Contexts.{fact_of, picked}
 use Rattle.proof_contexts.specs.Right.{IsGood, RightItems}
 use Rattle.core_expr.proofs.Equal.{sym-refl}
-use Rattle.proof_assembly.specs.Scopes.{InScope, With, IsClosedOver, AreOver, AreNew}
+use Rattle.proof_assembly.specs.Scopes.{InScope, With, AreOver, AreNew}
 use Rattle.proof_assembly.specs.Laws.{InScopeIsRight}
 
 size-abstracts : (x : Sym) (d : ℕ) (ps : Parts) → size (abstracts_at x d ps) ≡ size ps

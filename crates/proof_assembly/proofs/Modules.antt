@@ -1,8 +1,8 @@
 -- All modules, one after another: their definitions stand in order, and their theorems are right.
-use Rattle.std.specs.Prelude.{◌≡◌, ℕ, zero, suc, ◌+◌, ◌*◌, ◌<◌, ◌≤◌, Bool, true, false, ◌||◌, fold, if◌then◌else◌, List, [], ◌∷◌, ◌++◌, length, map, Option, Some, None, Result, Ok, Err, codes}
+use Rattle.std.specs.Prelude.{◌≡◌, ℕ, suc, ◌+◌, ◌*◌, ◌<◌, ◌≤◌, Bool, true, false, ◌||◌, fold, if◌then◌else◌, List, [], ◌∷◌, ◌++◌, length, map, Option, Some, None, Ok, codes}
 use Rattle.std.specs.Option.{is_some}
 use Rattle.std.proofs.Common.{refl, ap, sym, ◌∙◌, arith, subst, get_or, append_assoc, append-nil}
-use Rattle.std.proofs.lemmas.List.{length-append, get_or_append_left}
+use Rattle.std.proofs.lemmas.List.{length-append}
 use Rattle.std.proofs.Math.Seq.{get_or-append_seam}
 use Rattle.std_names.specs.Libraries as libraries
 use Rattle.core_expr.specs.declared.head.Sym.{Sym}
@@ -11,30 +11,28 @@ use Rattle.core_expr.proofs.Equal.{sym-same}
 use Rattle.tla_ast.specs.declared.place.Place.{Place}
 use Rattle.tla_ast.specs.declared.fault.Kind.{Kind}
 use Rattle.tla_ast.specs.declared.fault.Kind.TheVariants as kind
-use Rattle.tla_ast.specs.declared.fault.ScopeFault.{ScopeFault}
 use Rattle.obligation.specs.declared.obligation.Definition.{Definition}
 use Rattle.obligation.specs.Unfolding.{is_defined}
 use Rattle.plain_syntax.specs.Plain.{Text, Module}
 use Rattle.symbol_table.specs.declared.entry.Entry.{Entry}
 use Rattle.symbol_table.specs.declared.entry.EntrySort.TheVariants as sorts
 use Rattle.symbol_table.specs.Scoped.{Table, entry_of, unlisted, symbol}
-use Rattle.symbol_table.specs.Symbols.{symbol_at}
 use Rattle.expression_level.specs.Levels.{is_word}
 use Rattle.module_scope.specs.Scope.{Scope, found}
 use Rattle.module_scope.specs.Names.{Book, scope_of, entries_of, symbols_of, faults_of, each, unit}
 use Rattle.module_scope.specs.Names.Book.{book}
-use Rattle.module_scope.specs.Resolution.{library_sort, library_entry, distinct, library_entries, given, library_scope, Exports, exported, brought as names_of, first_clash, told, unknown, bring, extend, comes_before, sooner, least, emptied, module_names, start, after_module, resolved, resolution}
+use Rattle.module_scope.specs.Resolution.{library_entry, distinct, library_entries, given, library_scope, Exports, exported, brought as names_of, first_clash, told, unknown, extend, comes_before, sooner, least, emptied, module_names, start, after_module, resolved, resolution}
 use Rattle.scope_laws.specs.Places.{AllApart}
 use Rattle.scope_laws.specs.States.{IsPrefix, Each, Free, is_bound}
-use Rattle.scope_laws.proofs.Walks.{prefix_self, prefix_over, get_prefix, each_map, each_append}
-use Rattle.proof_contexts.specs.Theorems.{Known, Theorem}
+use Rattle.scope_laws.proofs.Walks.{prefix_self, get_prefix, each_map, each_append}
+use Rattle.proof_contexts.specs.Theorems.{Theorem}
 use Rattle.proof_contexts.specs.Right.{AreOrdered, RightKnown}
 use Rattle.usable_facts.specs.Definitions.{in_units, in_modules, definitions_of}
-use Rattle.usable_facts.specs.Theorems.{units_theorems, units_adds, Done, reaches, is_reached, brought, modules_theorems, theorems_of, joined, all_theorems}
+use Rattle.usable_facts.specs.Theorems.{units_theorems, units_adds, Done, reaches, is_reached, brought, modules_theorems, joined, all_theorems}
 use Rattle.proof_assembly.specs.Places.{module_places}
 use Rattle.proof_assembly.specs.Laws.{PlacesDiffer}
 use Rattle.proof_assembly.specs.Ranks.{rank, is_defined_kind}
-use Rattle.proof_assembly.proofs.Going.{Numbers, under, Back, refused_not, Gives, Scoped, Goes}
+use Rattle.proof_assembly.proofs.Going.{Numbers, under, Back, refused_not, Gives, Scoped}
 use Rattle.proof_assembly.proofs.Declared.{Between, Defines, defines_none, defines_append}
 use Rattle.proof_assembly.proofs.Units.{wide8, AllRight, rights_append, known_more, known_append, KeyedUnits, UnitsRight, units_goes}
 

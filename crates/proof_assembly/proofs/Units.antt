@@ -4,7 +4,6 @@ use Rattle.std.proofs.Common.{refl, ap, sym, ◌∙◌, arith, subst, append_ass
 use Rattle.core_expr.specs.declared.head.Sym.{Sym}
 use Rattle.core_expr.specs.declared.head.SymKind.TheVariants as kinds
 use Rattle.core_expr.specs.Tree.{Tree, true_}
-use Rattle.core_expr.specs.declared.head.SymKind.{SymKind}
 use Rattle.tla_ast.specs.declared.place.Place.{Place}
 use Rattle.tla_ast.specs.declared.tree.Decl.{Decl}
 use Rattle.tla_ast.specs.declared.fault.Kind.TheVariants as kind
@@ -25,31 +24,31 @@ use Rattle.symbol_table.specs.Scoped.{entry_of, unlisted}
 use Rattle.symbol_table.specs.Symbols.{symbol_at}
 use Rattle.expression_level.specs.Levels.{declared_level, level}
 use Rattle.module_scope.specs.Scope.{Scope, found}
-use Rattle.module_scope.specs.Names.{Book, Walk, ◌>>◌, scope_of, entries_of, left, with_more, inside, unseen_in, each, entry, refused, stands, is_fact as is_fact_name, is_definition, of_sort, alone, each_alone, stated, chosen as choose, define, cited, cited_as, fact_of as fact_number, named_fact, place_of, fact_names, unfolded, facts as walk_facts, move_names, proof_names, steps_names, levels_of, means, fresh, has_any, declare, fresh_name, fact_name as name_walk, assumed_at, assumed, assumption, theorem, unit_names, unit}
+use Rattle.module_scope.specs.Names.{Book, Walk, ◌>>◌, scope_of, entries_of, left, with_more, inside, unseen_in, each, entry, refused, stands, is_fact as is_fact_name, is_definition, of_sort, alone, each_alone, stated, chosen as choose, define, cited, cited_as, fact_of as fact_number, named_fact, fact_names, unfolded, facts as walk_facts, move_names, proof_names, steps_names, levels_of, means, fresh, has_any, declare, fresh_name, fact_name as name_walk, assumed_at, assumed, assumption, theorem, unit_names, unit}
 use Rattle.module_scope.specs.Names.Book.{book}
 use Rattle.prime_expand.specs.Symbols.{is_word}
-use Rattle.scope_laws.specs.Places.{places, all_places, definition_places}
+use Rattle.scope_laws.specs.Places.{places, all_places}
 use Rattle.scope_laws.proofs.Walks.{get_prefix, each_found}
 use Rattle.scope_laws.specs.States.{is_bound}
 use Rattle.proof_contexts.specs.Steps.{Item as item, Fact as fact, Proof as proof, Steps as chain, Step as act}
-use Rattle.proof_contexts.specs.Contexts.{fact_of, picked}
+use Rattle.proof_contexts.specs.Contexts.{fact_of}
 use Rattle.proof_contexts.specs.Right.{IsGood, level_items, level_after, RightFacts, RightProof, RightSteps, RightStep, RightItems, RightKnown, RightTheorem}
 use Rattle.proof_contexts.specs.Theorems.{Known, Theorem}
 use Rattle.proof_contexts.specs.Theorems.Known.{Assumption, Earlier}
 use Rattle.proof_contexts.proofs.Putting.{Below-more}
 use Rattle.proof_contexts.proofs.StepLaws.{RightItems-good}
 use Rattle.proof_outline.specs.Outline.{outline}
-use Rattle.usable_facts.specs.Keys.{label_key, entry_key, as_entry_key}
+use Rattle.usable_facts.specs.Keys.{label_key}
 use Rattle.usable_facts.specs.Proofs.{count, symbol, is_fact, core, items, chosen, takes, nexts, by_step, by_term, if_fact, fact_name, facts, hidden, definitions as names_after, defined, witness, witnesses, acts, proof_of, steps_of}
 use Rattle.usable_facts.specs.Definitions.{in_move, in_proof, in_steps, each_definition, in_unit, in_units}
 use Rattle.usable_facts.specs.Theorems.{number_of, cites_in, earlier, statement_fact, unit_adds, theorem_of, unit_theorem, units_theorems, units_adds}
-use Rattle.proof_assembly.specs.Places.{statement_places, facts_places, named_places, chosen_places, move_places, proof_places, steps_places, name_places, unit_places, units_places}
+use Rattle.proof_assembly.specs.Places.{statement_places, facts_places, named_places, move_places, proof_places, steps_places, name_places, unit_places, units_places}
 use Rattle.proof_assembly.specs.Scopes.{InScope, With, IsClosedOver, AreOver, AreNew}
 use Rattle.proof_assembly.specs.Ranks.{rank, is_defined_kind}
 use Rattle.proof_assembly.proofs.Items.{Only-below, with_below, right_fact, right_picked}
-use Rattle.proof_assembly.proofs.Going.{Numbers, under, Back, meant, Gives, Scoped, refused_not, Goes, same, Nothing, Fits, fits_over, goes_self, goes_then, goes_as, goes_inside, goes_numbers, goes_unseen, left_back, more_back, stands_goes, alone_fits, alone_goes, Enters, fresh_is, entered_goes}
+use Rattle.proof_assembly.proofs.Going.{Numbers, under, Back, meant, Gives, Scoped, refused_not, Goes, same, Nothing, Fits, fits_over, goes_self, goes_then, goes_as, goes_inside, goes_numbers, goes_unseen, left_back, more_back, stands_goes, alone_fits, alone_goes, fresh_is, entered_goes}
 use Rattle.proof_assembly.proofs.Declared.{Stated, stated_none, stated_goes, chosen_goes, numbers_low, Defines, defines_none, defines_more, defines_append, define_goes, Plus}
-use Rattle.proof_assembly.proofs.Shapes.{IsOther, Shaped, shaped}
+use Rattle.proof_assembly.proofs.Shapes.{Shaped, shaped}
 use Rattle.proof_assembly.proofs.Shapes.Shaped.{a_name, an_infix, other}
 
 pub left_length : (n : ℕ) (b : Book) → length (entries_of (left n b)) ≡ length (entries_of b)
@@ -285,42 +284,40 @@ module _ (E : List Entry) (Y : List (Place × ℕ)) (table : List Definition) wh
       later : (a b c : ℕ) (ds : List Definition) → a ≤ b → Defines b c ds → Defines a c ds
       later a b c ds p d = defines_more b c a c ds p (omega arith) d
 
+      -- a step that is one act, behind a walk
+      act_goes : (w : Walk) (a : act) (ds : List Definition) (b : Book) {ps : List Place} {next : InScope → InScope} {F : InScope → Type 0} → level_after rank table (8 * length (entries_of b)) a ≡ 8 * length (entries_of b)
+          → ((h : Back E Y (w b)) → Goes E Y b (w b) ps next F)
+          → ((P : InScope) → Scoped E Y b P → length (entries_of b) ≤ length (entries_of (w b)) → F P → ProofRight q i own (w b) (proof_names own (w b))
+          → RightStep rank table (λ _. true) a (8 * length (entries_of b)) × Defines (length (entries_of b)) (length (entries_of (w b))) ds)
+          → Back E Y (proof_names own (w b)) → Goes E Y b (proof_names own (w b)) (ps ++ proof_places own) (λ P. Numbers (length (entries_of (proof_names own (w b)))))
+          (λ P. ((rest : chain) → StepsAt rest (8 * length (entries_of (proof_names own (w b)))) → StepsAt (chain.Next q a rest) (8 * length (entries_of b))) × Defines (length (entries_of b)) (length (entries_of (proof_names own (w b)))) (ds ++ in_proof E (meant E Y) own))
+      act_goes w a ds b e f g h = then_own w b f (λ P s p r x o.
+          let v = g P s p x o in (
+            (λ rest y. one_act a (length (entries_of b)) (length (entries_of (w b))) (length (entries_of (proof_names own (w b)))) p r v.0
+                (subst (λ (n : ℕ). n ≤ 8 * length (entries_of (proof_names own (w b)))) (sym e) (over8 (length (entries_of b)) (length (entries_of (w b))) (length (entries_of (proof_names own (w b)))) p r)) rest y),
+            defines_append (length (entries_of b)) (length (entries_of (w b))) (length (entries_of (proof_names own (w b)))) ds (in_proof E (meant E Y) own) p r v.1 o.1,
+          )) h
+
       case_goes : (t : Term) (b : Book) → Back E Y (move_names (move.case t) (proof_names own) b) → MoveGoes (move.case t) b
-      case_goes t b h = then_own (alone t) b (alone_goes E Y t b) (λ P s p r f o. (
-        (λ rest a. one_act (act.Case l (core (meant E Y) E t) pf) (length (entries_of b)) (length (entries_of (alone t b))) (length (entries_of (proof_names own (alone t b)))) p r
-            (good P (8 * length (entries_of b)) (core (meant E Y) E t) (scoped_low P b s) f, (8 * length (entries_of (alone t b)), wide8 (length (entries_of b)) (length (entries_of (alone t b))) p, o.0)) (over8 (length (entries_of b)) (length (entries_of (alone t b))) (length (entries_of (proof_names own (alone t b)))) p r) rest a),
-        later (length (entries_of b)) (length (entries_of (alone t b))) (length (entries_of (proof_names own (alone t b)))) (in_proof E (meant E Y) own) p o.1,
-      )) h
+      case_goes t b h = act_goes (alone t) (act.Case l (core (meant E Y) E t) pf) [] b refl (alone_goes E Y t b) (λ P s p f o.
+          ((good P (8 * length (entries_of b)) (core (meant E Y) E t) (scoped_low P b s) f, (8 * length (entries_of (alone t b)), wide8 (length (entries_of b)) (length (entries_of (alone t b))) p, o.0)), defines_none _ _)) h
 
       have_goes : (t : Term) (b : Book) → Back E Y (move_names (move.have t) (proof_names own) b) → MoveGoes (move.have t) b
-      have_goes t b h = then_own (alone t) b (alone_goes E Y t b) (λ P s p r f o. (
-        (λ rest a. one_act (act.Have l (core (meant E Y) E t)) (length (entries_of b)) (length (entries_of (alone t b))) (length (entries_of (proof_names own (alone t b)))) p r
-            (good P (8 * length (entries_of b)) (core (meant E Y) E t) (scoped_low P b s) f) (over8 (length (entries_of b)) (length (entries_of (alone t b))) (length (entries_of (proof_names own (alone t b)))) p r) rest a),
-        later (length (entries_of b)) (length (entries_of (alone t b))) (length (entries_of (proof_names own (alone t b)))) (in_proof E (meant E Y) own) p o.1,
-      )) h
+      have_goes t b h = act_goes (alone t) (act.Have l (core (meant E Y) E t)) [] b refl (alone_goes E Y t b) (λ P s p f o. (good P (8 * length (entries_of b)) (core (meant E Y) E t) (scoped_low P b s) f, defines_none _ _)) h
+
+      define_step : (ds : Defs) (b : Book) → Back E Y (move_names (move.define ds) (proof_names own) b) → MoveGoes (move.define ds) b
+      define_step ds b h = act_goes (define ds) (act.Define (defined (meant E Y) cite E ds)) (each_definition E (meant E Y) ds) b refl (define_goes E Y ds b) (λ P s p f o. (tt, f)) h
+
+      add_goes : (fs : List Fact) (ds : List Decl) (b : Book) → Back E Y (move_names (move.add fs ds) (proof_names own) b) → MoveGoes (move.add fs ds) b
+      add_goes fs ds b h = act_goes (walk_facts fs ds) (act.Use l (facts (meant E Y) cite E fs) (names_after (meant E Y) cite E ds)) [] b refl (both_goes fs ds b) (λ P s p f o. (f (8 * length (entries_of b)) (scoped_low P b s), defines_none _ _)) h
+
+      hide_goes : (fs : List Fact) (ds : List Decl) (b : Book) → Back E Y (move_names (move.hide fs ds) (proof_names own) b) → MoveGoes (move.hide fs ds) b
+      hide_goes fs ds b h = act_goes (walk_facts fs ds) (act.Hide (hidden (meant E Y) cite E fs) (names_after (meant E Y) cite E ds)) [] b refl (both_goes fs ds b) (λ P s p f o. (tt, defines_none _ _)) h
 
       witness_goes : (ts : Terms) (b : Book) → Back E Y (move_names (move.witness ts) (proof_names own) b) → MoveGoes (move.witness ts) b
       witness_goes ts b h = then_own (each_alone ts) b (witnesses_goes q l ts b) (λ P s p r f o. (
         (λ rest a. f (8 * length (entries_of b)) (8 * length (entries_of (proof_names own (each_alone ts b)))) (scoped_low P b s) (over8 (length (entries_of b)) (length (entries_of (each_alone ts b))) (length (entries_of (proof_names own (each_alone ts b)))) p r) rest a),
         later (length (entries_of b)) (length (entries_of (each_alone ts b))) (length (entries_of (proof_names own (each_alone ts b)))) (in_proof E (meant E Y) own) p o.1,
-      )) h
-
-      define_step : (ds : Defs) (b : Book) → Back E Y (move_names (move.define ds) (proof_names own) b) → MoveGoes (move.define ds) b
-      define_step ds b h = then_own (define ds) b (define_goes E Y ds b) (λ P s p r f o. (
-        (λ rest a. one_act (act.Define (defined (meant E Y) cite E ds)) (length (entries_of b)) (length (entries_of (define ds b))) (length (entries_of (proof_names own (define ds b)))) p r tt (over8 (length (entries_of b)) (length (entries_of (define ds b))) (length (entries_of (proof_names own (define ds b)))) p r) rest a),
-        defines_append (length (entries_of b)) (length (entries_of (define ds b))) (length (entries_of (proof_names own (define ds b)))) (each_definition E (meant E Y) ds) (in_proof E (meant E Y) own) p r f o.1,
-      )) h
-
-      add_goes : (fs : List Fact) (ds : List Decl) (b : Book) → Back E Y (move_names (move.add fs ds) (proof_names own) b) → MoveGoes (move.add fs ds) b
-      add_goes fs ds b h = then_own (walk_facts fs ds) b (both_goes fs ds b) (λ P s p r f o. (
-        (λ rest a. one_act (act.Use l (facts (meant E Y) cite E fs) (names_after (meant E Y) cite E ds)) (length (entries_of b)) (length (entries_of (walk_facts fs ds b))) (length (entries_of (proof_names own (walk_facts fs ds b)))) p r (f (8 * length (entries_of b)) (scoped_low P b s)) (over8 (length (entries_of b)) (length (entries_of (walk_facts fs ds b))) (length (entries_of (proof_names own (walk_facts fs ds b)))) p r) rest a),
-        later (length (entries_of b)) (length (entries_of (walk_facts fs ds b))) (length (entries_of (proof_names own (walk_facts fs ds b)))) (in_proof E (meant E Y) own) p o.1,
-      )) h
-
-      hide_goes : (fs : List Fact) (ds : List Decl) (b : Book) → Back E Y (move_names (move.hide fs ds) (proof_names own) b) → MoveGoes (move.hide fs ds) b
-      hide_goes fs ds b h = then_own (walk_facts fs ds) b (both_goes fs ds b) (λ P s p r f o. (
-        (λ rest a. one_act (act.Hide (hidden (meant E Y) cite E fs) (names_after (meant E Y) cite E ds)) (length (entries_of b)) (length (entries_of (walk_facts fs ds b))) (length (entries_of (proof_names own (walk_facts fs ds b)))) p r tt (over8 (length (entries_of b)) (length (entries_of (walk_facts fs ds b))) (length (entries_of (proof_names own (walk_facts fs ds b)))) p r) rest a),
-        later (length (entries_of b)) (length (entries_of (walk_facts fs ds b))) (length (entries_of (proof_names own (walk_facts fs ds b)))) (in_proof E (meant E Y) own) p o.1,
       )) h
 
       take_goes : (gs : Groups) (b : Book) → Back E Y (move_names (move.take gs) (proof_names own) b) → MoveGoes (move.take gs) b

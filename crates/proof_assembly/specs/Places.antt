@@ -2,14 +2,12 @@
 use Rattle.std.specs.Prelude.{List, [], ◌∷◌, ◌++◌, Option, Some, None}
 use Rattle.tla_ast.specs.declared.place.Place.{Place}
 use Rattle.tla_ast.specs.declared.tree.Decl.{Decl}
-use Rattle.plain_syntax.specs.Plain.{Term, Terms, Groups, Item, Statement, Fact, Move as move, Proof, Steps, Unit, UnitKind as u, Module}
-use Rattle.plain_syntax.specs.Plain.Terms.{none, part}
+use Rattle.plain_syntax.specs.Plain.{Term, Groups, Item, Statement, Fact, Move as move, Proof, Steps, Unit, UnitKind as u, Module}
 use Rattle.plain_syntax.specs.Plain.Groups.{end_groups, free, within}
 use Rattle.plain_syntax.specs.Plain.Item.{new, given}
 use Rattle.plain_syntax.specs.Plain.Fact.{step_name, whole}
 use Rattle.plain_syntax.specs.Plain.Proof.{missing, obvious, omitted, by_facts, steps}
 use Rattle.plain_syntax.specs.Plain.Steps.{end_steps, step}
-use Rattle.module_scope.specs.Names.{place_of}
 use Rattle.scope_laws.specs.Places.{places, all_places, set_places, definition_places}
 
 abbrev pub domain_places : Option Term → List Place
