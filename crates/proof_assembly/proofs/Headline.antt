@@ -14,7 +14,9 @@ use Rattle.symbol_table.specs.declared.entry.Entry.{Entry}
 use Rattle.symbol_table.specs.Scoped.{Table, symbol}
 use Rattle.module_scope.specs.Resolution.{library_entries}
 use Rattle.prime_expand.specs.Symbols.{is_word}
-use Rattle.proof_contexts.specs.Theorems.{Known, Theorem, assumptions, fact}
+use Rattle.core_expr.specs.declared.canon.Canon.{Canon}
+use Rattle.proof_contexts.specs.Statuses.{Verdict, statuses, done_with, IsReported}
+use Rattle.proof_contexts.specs.Theorems.{IsDerivable, Known, Theorem, assumptions, fact}
 use Rattle.proof_contexts.specs.Theorems.Known.{Assumption, Earlier}
 use Rattle.proof_contexts.specs.Right.{Among, Stand, IsOther, InOrder}
 use Rattle.proof_contexts.proofs.Rules.{HasAll-itself, HasAll-cons, HasAll-all, HasAll-map}
@@ -23,7 +25,7 @@ use Rattle.proof_contexts.proofs.Reported.{all_reported}
 use Rattle.usable_facts.specs.Keys.{theorem_key, entry_key, unnamed_key}
 use Rattle.usable_facts.specs.Theorems.{unit_adds, unit_theorem, units_adds, units_theorems, number_of, earlier, statement_fact, theorem_of, Done, reached_by, is_done, reaches, is_reached, brought, modules_theorems, joined, all_theorems, keys_of, is_theorem_of}
 use Rattle.usable_facts.specs.Definitions.{definitions_of}
-use Rattle.proof_assembly.specs.Laws.{NotNamed, NamesDiffer, ReportedDerives}
+use Rattle.proof_assembly.specs.Laws.{NotNamed, NamesDiffer, ReportedDerives, EachDerives, StatusesAreJustified}
 use Rattle.proof_assembly.specs.Ranks.{rank}
 use Rattle.proof_assembly.proofs.Units.{AllRight, KeyedUnit, KeyedUnits}
 use Rattle.proof_assembly.proofs.Modules.{KeyedModules, all_right}
@@ -542,3 +544,13 @@ headline ms t answer h n d sound x q =
     let ts : List Theorem = all_theorems ms t in
     all_reported rank table (is_theorem_of ms t) answer r.ordered sound ts
     (in_order table (is_theorem_of ms t) [] ts r.right (modules_sourced t 0 0 [] ms [] empty_world (fresh_all ms) n) (modules_keys t 0 0 (length library_entries) [] ms [] r.keyed tt) (keyed_by (keys_of ts) ts (λ k e. e))) x q
+
+each_derives : (table : List Definition) (is_theorem : ℕ → Bool) (answer : Canon → Verdict) (done : List ℕ) (ts : List Theorem) → ((x : Theorem) → IsReported table is_theorem answer done ts x → IsDerivable table x) → EachDerives table ts (statuses table is_theorem answer done ts)
+each_derives table is_theorem answer done [] f = tt
+each_derives table is_theorem answer done (t ∷ ts) f = (
+  (λ h. f t (inl (refl, h))),
+  each_derives table is_theorem answer (done_with table is_theorem answer done t) ts (λ x r. f x (inr r)),
+)
+
+pub justified : StatusesAreJustified
+justified ms t answer h n d sound = each_derives (definitions_of ms t) (is_theorem_of ms t) answer [] (all_theorems ms t) (headline ms t answer h n d sound)

@@ -1,5 +1,5 @@
 -- What is proved of modules. Each statement is the contract of a function of src/lib.rt.
-use Rattle.std.specs.Prelude.{◌≡◌, ℕ, ◌<◌, Bool, false, IsTrue, List, [], ◌∷◌, Ok}
+use Rattle.std.specs.Prelude.{◌≡◌, ℕ, ◌<◌, Bool, true, false, IsTrue, List, [], ◌∷◌, Ok}
 use Rattle.core_expr.specs.declared.head.Sym.{Sym}
 use Rattle.core_expr.specs.declared.canon.Canon.{Canon}
 use Rattle.core_expr.specs.Tree.{Tree}
@@ -12,7 +12,7 @@ use Rattle.prime_expand.specs.Symbols.{is_word}
 use Rattle.scope_laws.specs.Places.{AllApart}
 use Rattle.proof_contexts.specs.Steps.{Item}
 use Rattle.proof_contexts.specs.Contexts.{fact_of, picked}
-use Rattle.proof_contexts.specs.Statuses.{Verdict, IsReported}
+use Rattle.proof_contexts.specs.Statuses.{Verdict, Status, is_proved, statuses, IsReported}
 use Rattle.proof_contexts.specs.Theorems.{Theorem, IsDerivable}
 use Rattle.proof_contexts.specs.Right.{RightItems}
 use Rattle.proof_contexts.specs.Laws.{IsSound}
@@ -51,3 +51,15 @@ ReportedDerives =
     (ms : List Module) (t : Table) (answer : Canon → Verdict) → resolution ms ≡ Ok t → NamesDiffer ms → PlacesDiffer ms → IsSound answer
     → (x : Theorem) → IsReported (definitions_of ms t) (is_theorem_of ms t) answer [] (all_theorems ms t) x
     → IsDerivable (definitions_of ms t) x
+
+-- each theorem whose status is proved has such a derivation
+abbrev pub EachDerives : List Definition → List Theorem → List Status → Type 0
+EachDerives table [] ss = Unit {0}
+EachDerives table (x ∷ xs) [] = Unit {0}
+EachDerives table (x ∷ xs) (s ∷ ss) = (is_proved s ≡ true → IsDerivable table x) × EachDerives table xs ss
+
+-- Of such modules, the statuses of all theorems are justified: the theorem of each that is proved has its derivation.
+abbrev pub StatusesAreJustified : Type 0
+StatusesAreJustified =
+    (ms : List Module) (t : Table) (answer : Canon → Verdict) → resolution ms ≡ Ok t → NamesDiffer ms → PlacesDiffer ms → IsSound answer
+    → EachDerives (definitions_of ms t) (all_theorems ms t) (statuses (definitions_of ms t) (is_theorem_of ms t) answer [] (all_theorems ms t))

@@ -3,11 +3,11 @@
 //! Where the names of modules are resolved, each formula of a statement, a step or a fact is closed and over symbols that are in scope
 //! where it stands, each NEW name is a symbol that nothing before it has, and definitions stand in an order in which bodies have
 //! earlier symbols alone. So each theorem that the definitions call reported proved has a derivation of its fully expanded fact from
-//! the fully expanded assumptions before it alone ([`reported_derives`]). What is asked of modules is that they have different names, and
+//! the fully expanded assumptions before it alone ([`reported_derives`], [`statuses_are_justified`]). What is asked of modules is that they have different names, and
 //! that no two names of one stand at one place. What is loaded has different names; the other is not proved of what is read.
 #![tactic(auto)]
 
-ghost use Rattle.proof_assembly.specs.Laws.{InScopeIsRight, ReportedDerives};
+ghost use Rattle.proof_assembly.specs.Laws.{InScopeIsRight, ReportedDerives, StatusesAreJustified};
 
 /// A statement whose symbols are in scope where they stand meets what the derivation of its theorem asks for, and so do the names
 /// that PICK chooses.
@@ -19,4 +19,10 @@ pub fn in_scope_is_right()
 /// reported proved has a derivation of its fully expanded fact from the fully expanded assumptions before it alone.
 pub fn reported_derives()
     ensures { ReportedDerives }
+{}
+
+/// Of such modules each status that is proved is justified: its theorem has a derivation of its fully expanded fact from the fully
+/// expanded assumptions before it alone.
+pub fn statuses_are_justified()
+    ensures { StatusesAreJustified }
 {}
