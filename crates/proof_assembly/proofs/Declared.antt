@@ -47,11 +47,15 @@ use Rattle.proof_assembly.specs.Places.{items_places, statement_places, named_pl
 use Rattle.proof_assembly.specs.Scopes.{InScope, With, IsClosedOver, AreOver, AreNew}
 use Rattle.proof_assembly.specs.Ranks.{rank, is_defined_kind}
 use Rattle.proof_assembly.proofs.Items.{Only-more, Only-below}
-use Rattle.proof_assembly.proofs.Going.{Numbers, under, sy, Back, meant, Goes, same, Enters, goes_self, goes_then, goes_as, goes_numbers, fresh_is, entered_goes, alone_goes, in_scope, Any, any, Gives, of_result, known, allowed_is, final, later, scoped_after, judged_is}
+use Rattle.proof_assembly.proofs.Going.{Numbers, over, room_later, under, sy, Back, meant, Goes, same, Enters, goes_self, goes_then, goes_as, goes_numbers, fresh_is, entered_goes, alone_goes, in_scope, Any, any, Gives, of_result, known, allowed_is, final, later, scoped_after, judged_is}
 
 -- one more number
 abbrev pub Plus : InScope → ℕ → InScope
 Plus P n s k = P s k ⊎ (s.number ≡ n)
+
+pub plus_low : (P : InScope) (n : ℕ) → ((x : Sym) (k : ℕ) → P x k → x.number < n) → (x : Sym) (k : ℕ) → Plus P n x k → x.number < suc n
+plus_low P n l x k (inl q) = let v : x.number < n = l x k q in omega arith
+plus_low P n l x k (inr q) = omega arith
 
 pub over_more : (P Q : InScope) → ((f : Sym) (k : ℕ) → P f k → Q f k) → (e : Tree) → IsClosedOver P e → IsClosedOver Q e
 over_more P Q i e h = (Only-more P Q e i h.0, h.1)
@@ -119,10 +123,7 @@ module _ (E : List Entry) (Y : List (Place × ℕ)) where
     above m n k h = omega arith
 
     pub stated_none : (c b : Book) (g : Tree) (P : InScope) → length (entries_of b) ≤ length (entries_of c) → IsClosedOver P g → Stated c [] g b P
-    stated_none c b g P l h m q = (tt, h, over m (length (entries_of b)) (length (entries_of c)) q l)
-      where
-        over : (m a b : ℕ) → m ≤ 8 * a → a ≤ b → m ≤ 8 * b
-        over m a b h k = omega arith
+    stated_none c b g P l h m q = (tt, h, room_later m (length (entries_of b)) (length (entries_of c)) q l)
 
     stated_new : (k : SymKind) (e : Entry) (p : Place) (a b c : Book) (is : List item) (g : Tree) (P : InScope) → is_defined_kind k ≡ false → kind_code k ≤ 5 → Enters E Y e p b a
         → Stated c is g a (With P (sy k (length (entries_of b)) 0)) → Stated c (item.New (symbol k (meant E Y p)) ∷ is) g b P
@@ -160,9 +161,6 @@ module _ (E : List Entry) (Y : List (Place × ℕ)) where
     -- what is behind items, if they have these places
     abbrev Rest : List Item → Term → Book → Type 1
     Rest xs t b = Goes E Y b (alone t (each item_names xs b)) (items_places xs (places t)) (λ P. Numbers (length (entries_of (alone t (each item_names xs b))))) (Stated (alone t (each item_names xs b)) (items (meant E Y) E xs) (core (meant E Y) E t) b)
-
-    room_later : (m a b : ℕ) → m ≤ 8 * a → a ≤ b → m ≤ 8 * b
-    room_later m a b h k = omega arith
 
     given_goes : (e : Term) (xs : List Item) (t : Term) (b : Book) → Rest xs t (alone e b) → Rest (given e ∷ xs) t b
     given_goes e xs t b q =
@@ -402,11 +400,7 @@ module _ (E : List Entry) (Y : List (Place × ℕ)) where
       → Goes E Y b (defined w ps t p b) (p ∷ []) (λ P. Plus P (length (entries_of b))) (λ P. Enters E Y (definition_entry w ps t b) p b (defined w ps t p b))
   unfolding definition_entry
   named_goes w ps t p b h =
-      entered_goes E Y (definition_entry w ps t b) (definition_level (means b) (levels_of b) ps t) p b (λ P. Plus P (length (entries_of b))) refl (λ P s k q. inl q) (λ P k j q. inr refl) low h
-    where
-      low : (P : InScope) → ((s : Sym) (k : ℕ) → P s k → s.number < length (entries_of b)) → (s : Sym) (k : ℕ) → Plus P (length (entries_of b)) s k → s.number < suc (length (entries_of b))
-      low P l s k (inl q) = let v : s.number < length (entries_of b) = l s k q in omega arith
-      low P l s k (inr q) = omega arith
+      entered_goes E Y (definition_entry w ps t b) (definition_level (means b) (levels_of b) ps t) p b (λ P. Plus P (length (entries_of b))) refl (λ P s k q. inl q) (λ P k j q. inr refl) (λ P. plus_low P (length (entries_of b))) h
 
   one_defines : (w : Text) (ps : List Decl) (t : Term) (p : Place) (a b c : Book) → length (entries_of a) ≤ length (entries_of b) → BodiesBelow (length (entries_of a)) ps t → Enters E Y (definition_entry w ps t b) p b c
       → Defines (length (entries_of a)) (length (entries_of c)) (numbered E (meant E Y) (meant E Y p) ps t)
@@ -445,9 +439,6 @@ module _ (E : List Entry) (Y : List (Place × ℕ)) where
       (goes_as E Y (goes_then E Y k (goes_then E Y r q)) (λ P s f.
       defines_append (length (entries_of a)) (length (entries_of c2)) (length (entries_of c3)) (numbered E (meant E Y) (meant E Y p) ps t) (each_definition E (meant E Y) ds) (over (length (entries_of a)) (length (entries_of c1)) (length (entries_of c2)) k.stays.longer r.stays.longer) q.stays.longer
       (one_defines w ps t p a c1 c2 k.stays.longer f.0 f.1.0) f.1.1))
-    where
-      over : (a b c : ℕ) → a ≤ b → b ≤ c → a ≤ c
-      over a b c p q = omega arith
 
   bodies_judged : (ds : Defs) (b : Book) → Back E Y (judged_bodies ds b) → judged_bodies ds b ≡ b
   bodies_judged end_defs b h = refl

@@ -1,5 +1,5 @@
 -- What a walk over a part of a module says of it, and of what is in scope behind it, where the walk over the module meets no fault.
-use Rattle.std.specs.Prelude.{◌≡◌, ℕ, zero, suc, ◌+◌, ◌<◌, ◌≤◌, Bool, true, false, ◌||◌, ◌&&◌, nat_eq, IsTrue, List, [], ◌∷◌, ◌++◌, length, drop, Option, Some, None}
+use Rattle.std.specs.Prelude.{◌≡◌, ℕ, zero, suc, ◌+◌, ◌*◌, ◌<◌, ◌≤◌, Bool, true, false, ◌||◌, ◌&&◌, nat_eq, IsTrue, List, [], ◌∷◌, ◌++◌, length, drop, Option, Some, None}
 use Rattle.std.proofs.Common.{refl, ap, sym, ◌∙◌, arith, subst, inl, inr}
 use Rattle.std.proofs.Math.Seq.{get_or-append_seam}
 use Rattle.core_expr.specs.Equal.{nat-same, nat-refl}
@@ -32,6 +32,13 @@ use Rattle.proof_assembly.proofs.Items.{Only-more}
 -- the symbols of numbers below l
 abbrev pub Numbers : ℕ → InScope
 Numbers l f k = f.number < l
+
+pub over : (a b c : ℕ) → a ≤ b → b ≤ c → a ≤ c
+over a b c p q = omega arith
+
+-- room for ranks is kept
+pub room_later : (m a b : ℕ) → m ≤ 8 * a → a ≤ b → m ≤ 8 * b
+room_later m a b h k = omega arith
 
 pub under : (n a b : ℕ) → n < a → a ≤ b → n < b
 under n a b h k = omega arith
@@ -81,9 +88,6 @@ module _ (E : List Entry) (Y : List (Place × ℕ)) where
     longer = over (length (entries_of b)) (length (entries_of c)) (length (entries_of d)) p.longer q.longer;
     keeps = λ r h. q.keeps r (λ x k. h x (has_right ps qs x k)) ∙ p.keeps r (λ x k. h x (has_left ps qs x k));
   }
-    where
-      over : (a b c : ℕ) → a ≤ b → b ≤ c → a ≤ c
-      over a b c p q = omega arith
 
   pub of_result : {Outer : ℕ → Type 0} {b c : Book} {ps : List Place} {F : List ℕ → Type 0} {add : List ℕ → List ℕ} → Result E Y Outer b c ps F add → Stays b c ps
   of_result r = record { back = record { entries = r.back.entries; symbols = r.back.symbols; no_fault = r.back.no_fault }; scope = r.scope; longer = r.longer; keeps = r.keeps }

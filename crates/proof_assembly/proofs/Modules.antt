@@ -32,7 +32,7 @@ use Rattle.usable_facts.specs.Theorems.{units_theorems, units_adds, Done, reache
 use Rattle.proof_assembly.specs.Places.{module_places}
 use Rattle.proof_assembly.specs.Laws.{PlacesDiffer}
 use Rattle.proof_assembly.specs.Ranks.{rank, is_defined_kind}
-use Rattle.proof_assembly.proofs.Going.{Numbers, under, Back, refused_not, Gives, Scoped}
+use Rattle.proof_assembly.proofs.Going.{Numbers, over, under, Back, refused_not, Gives, Scoped}
 use Rattle.proof_assembly.proofs.Declared.{Between, Defines, defines_none, defines_append}
 use Rattle.proof_assembly.proofs.Units.{wide8, AllRight, rights_append, known_more, known_append, KeyedUnits, UnitsRight, units_goes}
 
@@ -348,9 +348,6 @@ module _ (t : Table) where
                       (w.right (i + length ts) (ds ++ last ∷ []) (dones_last k ds last (dones_more n k ds r.longer g) u.adds));
                 };
           }
-        where
-          over : (a b c : ℕ) → a ≤ b → b ≤ c → a ≤ c
-          over a b c h k = omega arith
 
 -- symbols of other kinds are no definition's
 none_defined : (l k : ℕ) (ds : List Definition) → Between l k ds → (f : Sym) → is_defined_kind f.kind ≡ false → is_defined ds f ≡ false

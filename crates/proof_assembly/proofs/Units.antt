@@ -46,8 +46,8 @@ use Rattle.proof_assembly.specs.Places.{statement_places, facts_places, named_pl
 use Rattle.proof_assembly.specs.Scopes.{InScope, With, IsClosedOver, AreOver, AreNew}
 use Rattle.proof_assembly.specs.Ranks.{rank, is_defined_kind}
 use Rattle.proof_assembly.proofs.Items.{Only-below, with_below, right_fact, right_picked}
-use Rattle.proof_assembly.proofs.Going.{Numbers, under, Back, meant, Gives, Scoped, refused_not, Goes, same, Nothing, Fits, fits_over, goes_self, goes_then, goes_as, goes_inside, goes_numbers, goes_unseen, left_back, more_back, stands_goes, alone_fits, alone_goes, fresh_is, entered_goes}
-use Rattle.proof_assembly.proofs.Declared.{Stated, stated_none, stated_goes, chosen_goes, numbers_low, Defines, defines_none, defines_more, defines_append, define_goes, Plus}
+use Rattle.proof_assembly.proofs.Going.{Numbers, over, room_later, under, Back, meant, Gives, Scoped, refused_not, Goes, same, Nothing, Fits, fits_over, goes_self, goes_then, goes_as, goes_inside, goes_numbers, goes_unseen, left_back, more_back, stands_goes, alone_fits, alone_goes, fresh_is, entered_goes}
+use Rattle.proof_assembly.proofs.Declared.{plus_low, Stated, stated_none, stated_goes, chosen_goes, numbers_low, Defines, defines_none, defines_more, defines_append, define_goes, Plus}
 use Rattle.proof_assembly.proofs.Shapes.{Shaped, shaped}
 use Rattle.proof_assembly.proofs.Shapes.Shaped.{a_name, an_infix, other}
 
@@ -93,13 +93,7 @@ module _ (E : List Entry) (Y : List (Place × ℕ)) (table : List Definition) wh
 
   lowered : (ss : chain) (m n : ℕ) → m ≤ n → StepsAt ss n → StepsAt ss m
   lowered (chain.Qed p) m n q h = (h.0, over m n h.0 q h.1, h.2)
-    where
-      over : (a b c : ℕ) → a ≤ b → b ≤ c → a ≤ c
-      over a b c p q = omega arith
   lowered (chain.Next p s ss) m n q h = (h.0, over m n h.0 q h.1, h.2, h.3)
-    where
-      over : (a b c : ℕ) → a ≤ b → b ≤ c → a ≤ c
-      over a b c p q = omega arith
 
   module _ (undefined : (f : Sym) → is_defined_kind f.kind ≡ false → is_defined table f ≡ false) (cite : Place → Option ℕ) where
     -- ---- facts
@@ -324,13 +318,10 @@ module _ (E : List Entry) (Y : List (Place × ℕ)) (table : List Definition) wh
       take_goes gs b h = then_own (choose gs) b (λ k. chosen_goes E Y table undefined (choose gs b) true_ [] cite gs b (end k)) (λ P s p r f o.
           let v = f (8 * length (entries_of b)) (omega arith) in (
             (λ rest a. takes_right q l rest (8 * length (entries_of (proof_names own (choose gs b)))) a gs P (8 * length (entries_of b)) (scoped_low P b s) v.0 v.1
-                (up (level_items rank table (8 * length (entries_of b)) (chosen (meant E Y) cite E gs)) (length (entries_of (choose gs b))) (length (entries_of (proof_names own (choose gs b)))) v.2 r)),
+                (room_later (level_items rank table (8 * length (entries_of b)) (chosen (meant E Y) cite E gs)) (length (entries_of (choose gs b))) (length (entries_of (proof_names own (choose gs b)))) v.2 r)),
             later (length (entries_of b)) (length (entries_of (choose gs b))) (length (entries_of (proof_names own (choose gs b)))) (in_proof E (meant E Y) own) p o.1,
           )) h
         where
-          up : (x a b : ℕ) → x ≤ 8 * a → a ≤ b → x ≤ 8 * b
-          up x a b h k = omega arith
-
           end : Back E Y (choose gs b) → Goes E Y (choose gs b) (choose gs b) [] (λ P. Numbers (length (entries_of (choose gs b)))) (Stated E Y table undefined (choose gs b) [] true_ (choose gs b))
           end k = goes_numbers E Y (goes_self E Y (choose gs b) (Stated E Y table undefined (choose gs b) [] true_ (choose gs b)) k (λ P s. stated_none E Y table undefined (choose gs b) (choose gs b) true_ P (omega arith) (tt, tt)))
 
@@ -340,9 +331,6 @@ module _ (E : List Entry) (Y : List (Place × ℕ)) (table : List Definition) wh
       statement_right s b c P k f =
           let v = f (8 * length (entries_of b)) (omega arith) in
           (right_fact rank table P (8 * length (entries_of b)) (items (meant E Y) E s.items) (core (meant E Y) E s.goal) (scoped_low P b k) v.0 v.1, v.2)
-
-      up8 : (x a b : ℕ) → x ≤ 8 * a → a ≤ b → x ≤ 8 * b
-      up8 x a b h k = omega arith
 
       assert_goes : (s : Statement) (b : Book) → Back E Y (move_names (move.assert s) (proof_names own) b) → MoveGoes (move.assert s) b
       assert_goes s b h =
@@ -354,12 +342,9 @@ module _ (E : List Entry) (Y : List (Place × ℕ)) (table : List Definition) wh
           let w = statement_right s b a P z x.0 in
           let e = left_length (length (scope_of b)) d in (
             (λ rest y. one_act (act.Assert l _ pf) (length (entries_of b)) (length (entries_of a)) (length (entries_of (left (length (scope_of b)) d))) r.stays.longer (subst (λ (n : ℕ). length (entries_of a) ≤ n) (sym e) k.stays.longer)
-                (w.0, (8 * length (entries_of a), w.1, x.1.0)) (wide8 (length (entries_of b)) (length (entries_of (left (length (scope_of b)) d))) (subst (λ (n : ℕ). length (entries_of b) ≤ n) (sym e) (over r.stays.longer k.stays.longer))) rest y),
+                (w.0, (8 * length (entries_of a), w.1, x.1.0)) (wide8 (length (entries_of b)) (length (entries_of (left (length (scope_of b)) d))) (subst (λ (n : ℕ). length (entries_of b) ≤ n) (sym e) (over (length (entries_of b)) (length (entries_of a)) (length (entries_of d)) r.stays.longer k.stays.longer))) rest y),
             subst (λ (n : ℕ). Defines (length (entries_of b)) n (in_proof E (meant E Y) own)) (sym e) (later (length (entries_of b)) (length (entries_of a)) (length (entries_of d)) (in_proof E (meant E Y) own) r.stays.longer x.1.1),
           ))
-        where
-          over : {a b c : ℕ} → a ≤ b → b ≤ c → a ≤ c
-          over {a = a} {b = b} {c = c} p q = omega arith
 
       -- what a statement or a choice brings in is not seen in the step's own proof, but after it
       unseen_own : (w : Walk) (b : Book) {ps : List Place} {F : InScope → Type 0} (G : ℕ → Type 0) → ((h : Back E Y (w b)) → Goes E Y b (w b) ps (λ P. Numbers (length (entries_of (w b)))) F)
@@ -389,7 +374,7 @@ module _ (E : List Entry) (Y : List (Place × ℕ)) (table : List Definition) wh
       suffices_goes s b h = unseen_own (stated s) b (Step (move.suffices s) b) (stated_goes E Y table undefined s b) (λ P c z p r f o d.
           let w = statement_right s b (stated s b) P z f in (
             (λ rest y. one_act (act.Suffices l _ pf) (length (entries_of b)) (length (entries_of (stated s b))) c p r
-                (w.0, (8 * length (entries_of (stated s b)), wide8 (length (entries_of b)) (length (entries_of (stated s b))) p, o)) (up8 _ (length (entries_of (stated s b))) c w.1 r) rest y),
+                (w.0, (8 * length (entries_of (stated s b)), wide8 (length (entries_of b)) (length (entries_of (stated s b))) p, o)) (room_later _ (length (entries_of (stated s b))) c w.1 r) rest y),
             later (length (entries_of b)) (length (entries_of (stated s b))) c (in_proof E (meant E Y) own) p d,
           )) h
 
@@ -399,7 +384,7 @@ module _ (E : List Entry) (Y : List (Place × ℕ)) (table : List Definition) wh
           let a : Book = alone t (choose gs b) in (
             (λ rest y. one_act (act.Pick l _ _ pf) (length (entries_of b)) (length (entries_of a)) c p r
                 (right_picked rank table P (8 * length (entries_of b)) (chosen (meant E Y) cite E gs) (core (meant E Y) E t) (scoped_low P b z) v.0 v.1, (8 * length (entries_of a), wide8 (length (entries_of b)) (length (entries_of a)) p, o))
-                (up8 _ (length (entries_of a)) c v.2 r) rest y),
+                (room_later _ (length (entries_of a)) c v.2 r) rest y),
             later (length (entries_of b)) (length (entries_of a)) c (in_proof E (meant E Y) own) p d,
           )) h
         where
@@ -522,13 +507,9 @@ module _ (E : List Entry) (Y : List (Place × ℕ)) where
   declared_goes s l d b o h =
       let a : Book = fresh d.name d.place b in
       let e : Entry = record { name = d.name; sort = s; arity = d.arity; level = l; primed = [] } in
-      let r = entered_goes E Y e (declared_level l (has_any d.arity)) d.place a (λ P. Plus P (length (entries_of a))) o (λ P x k q. inl q) (λ P k j q. inr refl) (λ P. low P (length (entries_of a))) h in
+      let r = entered_goes E Y e (declared_level l (has_any d.arity)) d.place a (λ P. Plus P (length (entries_of a))) o (λ P x k q. inl q) (λ P k j q. inr refl) (λ P. plus_low P (length (entries_of a))) h in
       subst (λ (x : Book). Goes E Y x (declare s l d b) (d.place ∷ []) (λ P. Numbers (length (entries_of (declare s l d b)))) (Nothing E Y)) (fresh_is E Y d.name d.place b r.stays.back)
       (goes_as E Y (goes_numbers E Y r) (λ P z f. tt))
-    where
-      low : (P : InScope) (n : ℕ) → ((x : Sym) (k : ℕ) → P x k → x.number < n) → (x : Sym) (k : ℕ) → Plus P n x k → x.number < suc n
-      low P n l x k (inl q) = let v : x.number < n = l x k q in omega arith
-      low P n l x k (inr q) = omega arith
 
   declares_goes : (s : EntrySort) (l : ℕ) (ds : List Decl) (b : Book) → is_bound s ≡ false → Back E Y (each (declare s l) ds b) → Goes E Y b (each (declare s l) ds b) (named_places ds []) (λ P. Numbers (length (entries_of (each (declare s l) ds b)))) (Nothing E Y)
   declares_goes s l [] b o h = goes_numbers E Y (goes_self E Y b (Nothing E Y) h (λ P z. tt))
@@ -546,13 +527,9 @@ module _ (E : List Entry) (Y : List (Place × ℕ)) where
   fact_name_goes s None b o h = goes_numbers E Y (goes_self E Y b (λ P. Unit {0}) h (λ P z. tt))
   fact_name_goes s (Some d) b o h =
       let e : Entry = record { name = d.name; sort = s; arity = 0; level = 0; primed = [] } in
-      let r = entered_goes E Y e (declared_level 0 (has_any 0)) d.place b (λ P. Plus P (length (entries_of b))) o (λ P x k q. inl q) (λ P k j q. inr refl) (λ P. low P (length (entries_of b))) h in
+      let r = entered_goes E Y e (declared_level 0 (has_any 0)) d.place b (λ P. Plus P (length (entries_of b))) o (λ P x k q. inl q) (λ P k j q. inr refl) (λ P. plus_low P (length (entries_of b))) h in
       goes_as E Y (goes_numbers E Y r) (λ P z f. (length (entries_of b), f.number, omega arith, next (length (entries_of (name_walk s (Some d) b))) (length (entries_of b)) f.longer))
     where
-      low : (P : InScope) (n : ℕ) → ((x : Sym) (k : ℕ) → P x k → x.number < n) → (x : Sym) (k : ℕ) → Plus P n x k → x.number < suc n
-      low P n l x k (inl q) = let v : x.number < n = l x k q in omega arith
-      low P n l x k (inr q) = omega arith
-
       next : (a b : ℕ) → a ≡ suc b → b < a
       next a b e = omega arith
 
@@ -567,9 +544,6 @@ module _ (E : List Entry) (Y : List (Place × ℕ)) where
   keyed_more : (w : Option Decl) (a b c : ℕ) → a ≤ b → KeyedName (meant E Y) b c w → KeyedName (meant E Y) a c w
   keyed_more None a b c p h = tt
   keyed_more (Some d) a b c p (n, e, q, r) = (n, e, over a b n p q, r)
-    where
-      over : (a b n : ℕ) → a ≤ b → b ≤ n → a ≤ n
-      over a b n p q = omega arith
 
   module _ (table : List Definition) (undefined : (f : Sym) → is_defined_kind f.kind ≡ false → is_defined table f ≡ false) where
     abbrev KnownAt : ℕ → List Known → Type 0
@@ -636,9 +610,6 @@ module _ (E : List Entry) (Y : List (Place × ℕ)) where
           fact = good_later (statement_fact E (meant E Y) s) n (length (entries_of z)) (over n (length (entries_of c)) (length (entries_of z)) q.stays.longer k.stays.longer) (fact_good s n st);
           keyed = keyed_more w n (length (entries_of c)) (length (entries_of z)) q.stays.longer f.1;
         }))
-      where
-        over : (a b c : ℕ) → a ≤ b → b ≤ c → a ≤ c
-        over a b c p q = omega arith
 
     abbrev UnitGoes : unit_ → Book → Type 1
     UnitGoes x b = Goes E Y b (unit x b) (unit_places x.kind) (λ P. Numbers (length (entries_of (unit x b)))) (λ P. UnitRight x (length (entries_of b)) (length (entries_of (unit x b))))
