@@ -9,11 +9,11 @@ use Rattle.core_expr.specs.Tree.Parts.{end, part}
 use Rattle.core_expr.specs.Put.{shift, argument, put, puts, apply_body, sub, subs}
 use Rattle.core_expr.specs.Nodes.{canon_sym}
 use Rattle.core_expr.specs.Terms.{same_sym}
-use Rattle.core_expr.proofs.Equal.{sym-same}
+use Rattle.core_expr.proofs.Equal.{sym-same, sym-refl}
 use Rattle.seq_calculus.specs.Calculus.{HasAll}
 use Rattle.proof_contexts.specs.Canonical.{is_listed, with_symbol, gathered, all_gathered, each_gathered, place_of, numbered, all_numbered, has_equal, distinct, symbols_of, canon_of}
 use Rattle.proof_contexts.proofs.Rules.{HasAll-cons}
-use Rattle.proof_contexts.proofs.Putting.{shift_nothing, sym-itself}
+use Rattle.proof_contexts.proofs.Putting.{shift_nothing}
 
 abbrev symbol_at : List Sym → ℕ → Option Sym
 symbol_at [] i = None
@@ -128,7 +128,7 @@ with_symbol-found g xs = go (is_listed xs g) refl
   where
     go : (b : Bool) → is_listed xs g ≡ b → IsFound (cond b xs (xs ++ g ∷ [])) g
     go true e = found_named xs g e
-    go false e = found_last xs g (sym-itself g)
+    go false e = found_last xs g (sym-refl g)
 
 mutual
   grows : (e : Tree) (xs : List Sym) → Grows xs (gathered e xs)

@@ -1,5 +1,5 @@
 -- What a list of formulas holds of a context.
-use Rattle.std.specs.Prelude.{◌≡◌, ℕ, ◌≤◌, Bool, true, false, ◌&&◌, not, cond, Option, Some, None, List, [], ◌∷◌, ◌++◌, map}
+use Rattle.std.specs.Prelude.{◌≡◌, ℕ, ◌≤◌, Bool, true, false, not, cond, Option, Some, None, List, [], ◌∷◌, ◌++◌, map}
 use Rattle.std.proofs.Common.{refl, ap, sym, ◌∙◌, subst, inl}
 use Rattle.core_expr.specs.declared.head.Sym.{Sym}
 use Rattle.core_expr.specs.declared.canon.Canon.{Canon}
@@ -20,7 +20,7 @@ use Rattle.proof_contexts.specs.Steps.Fact.{Cited, Plain}
 use Rattle.proof_contexts.specs.Contexts.{Entry, names_of, usable_of, named, cited_of, used, aliases, use_facts, usable, hidden, has_any}
 use Rattle.proof_contexts.specs.Leaves.{is_temporal, obligation, leaf, IsDerived, IsProved}
 use Rattle.proof_contexts.specs.Right.{IsGood, RightFacts}
-use Rattle.proof_contexts.proofs.Rules.{HasAll-one, HasAll-sub, Has-all, HasAll-all}
+use Rattle.proof_contexts.proofs.Rules.{left_true, HasAll-one, HasAll-map, Has-all, HasAll-all}
 use Rattle.proof_contexts.proofs.Putting.{expansion, whole, ExpandsAll, chosen-expands, IsFalling, sub-unfolded, Below-more, Below-sub}
 use Rattle.proof_contexts.proofs.CanonLaws.{canon_back}
 use Rattle.proof_contexts.proofs.Joins.{AllBelow, widen}
@@ -87,10 +87,6 @@ module _ (table : List Definition) (may : ℕ → Bool) where
   aliases_covered g (Some k) [] h = tt
   aliases_covered g (Some k) (f ∷ fs) h = (reached g (record { formula = f; keys = k ∷ []; marks = []; usable = false }) h.0, aliases_covered g (Some k) fs h.1)
 
-  left_true : (a b : Bool) → a && b ≡ true → a ≡ true
-  left_true true b h = refl
-  left_true false b h = h
-
   pub Covers-hidden : (g : List Tree) (xs : List ℕ) (k : List Entry) → Covers g k → Covers g (map (hidden xs) k)
   Covers-hidden g xs [] c = tt
   Covers-hidden g xs (e ∷ k) c =
@@ -145,7 +141,7 @@ module _ (table : List Definition) (may : ℕ → Bool) where
           let d1 = Der-sub (expansion table) (map (sub names) c.facts) (sub names c.goal ∷ []) (Der-sub names c.facts (c.goal ∷ []) d) in
           let e : whole table (sub names c.goal) ≡ whole table o.goal = ap (whole table) b.2 ∙ sub-unfolded (expansion table) o.defs o.goal x in
           let a : HasAll g (map (whole table) fs) = subst (HasAll g) (sym (each o.facts)) h in
-          let w = HasAll-sub (expansion table) fs (map (sub names) c.facts) b.1 in
+          let w = HasAll-map (whole table) fs (map (sub names) c.facts) b.1 in
           subst (λ (x : Tree). Der g (x ∷ [])) e
           (widen g (map (whole table) (map (sub names) c.facts)) (whole table (sub names c.goal)) cg
           (HasAll-all g (map (whole table) fs) (map (whole table) (map (sub names) c.facts)) a w) d1)

@@ -5,13 +5,14 @@ use Rattle.core_expr.specs.declared.head.Sym.{Sym}
 use Rattle.core_expr.specs.Tree.{Tree, not_, and_, imp_, all_, ex_, choose_}
 use Rattle.core_expr.specs.Tree.Parts.{end}
 use Rattle.core_expr.specs.Put.{inst, apply_body, sub}
+use Rattle.core_expr.proofs.Equal.{sym-refl}
 use Rattle.core_expr.proofs.Laws.{sub-inst, put_closed}
 use Rattle.seq_calculus.specs.Calculus.{HasAll, IsClosed, AllClosed, Der}
 use Rattle.seq_calculus.specs.Calculus.Rule.{Cut, AndL, AndR, ImpL, ImpR, AllR, ExL, ExR}
 use Rattle.proof_contexts.proofs.Rules.{HasAll-itself, HasAll-one, HasAll-cons, by_one, by_two}
 use Rattle.seq_calculus.proofs.Renamed.{Der-sub, Der-weak, Der-closed}
 use Rattle.proof_contexts.specs.Expansion.{name, IsBelow}
-use Rattle.proof_contexts.proofs.Putting.{sym-itself, at, sub_absent}
+use Rattle.proof_contexts.proofs.Putting.{at, sub_absent}
 
 pub cut_in : (g : List Tree) (a b : Tree) → IsClosed b → Der g (a ∷ []) → Der (a ∷ g) (b ∷ []) → Der g (b ∷ [])
 cut_in g a b cb h k =
@@ -92,7 +93,7 @@ module _ (rank : Sym → ℕ) where
 
   at_itself : (c : Sym) (t : Tree) → IsClosed t → sub (at c t) (name c) ≡ t
   at_itself c t ct =
-      ap (λ (b : Bool). apply_body (elim b [ true ↦ Some t | false ↦ None ]) c end) (sym-itself c)
+      ap (λ (b : Bool). apply_body (elim b [ true ↦ Some t | false ↦ None ]) c end) (sym-refl c)
       ∙ put_closed 0 0 end t (omega arith) ct
 
   inst_at : (n : ℕ) (c : Sym) (p t : Tree) → n ≤ rank c → IsBelow rank n p → IsClosed t → sub (at c t) (inst p (name c)) ≡ inst p t

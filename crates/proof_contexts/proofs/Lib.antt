@@ -1,11 +1,9 @@
-mod Rules
+pub mod Rules
 pub mod Putting
-mod Expansions
 mod CanonLaws
 mod Joins
 mod Covering
-mod StepLaws
+pub mod StepLaws
 mod Assembly
-mod Cited
-mod Reported
+pub mod Reported
 mod Examples

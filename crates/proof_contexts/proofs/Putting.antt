@@ -10,14 +10,13 @@ use Rattle.core_expr.specs.Put.{shift, shifts, argument, put, puts, inst, apply_
 use Rattle.core_expr.specs.Rename.{named}
 use Rattle.core_expr.specs.Terms.{same_sym}
 use Rattle.core_expr.proofs.Laws.{sub-put}
-use Rattle.core_expr.proofs.Equal.{sym-same, same-refl, and-both}
+use Rattle.core_expr.proofs.Equal.{sym-same, sym-refl}
 use Rattle.obligation.specs.declared.obligation.Definition.{Definition}
 use Rattle.obligation.specs.Unfolding.{put_in, unfolded, is_defined}
-use Rattle.proof_contexts.specs.Expansion.{has_number, chosen, unfold_top, unfold_head, abstract_at, abstracts_at, abstract, name, IsBelow, AreBelow}
+use Rattle.proof_contexts.specs.Expansion.{has_number, chosen, unfold_top, unfold_head, abstract_at, abstracts_at, abstract, name, full, IsBelow, AreBelow}
+use Rattle.proof_contexts.specs.Contexts.{unfolded_by}
 use Rattle.proof_contexts.specs.Right.{IsFirst, AreOrdered}
-
-pub sym-itself : (f : Sym) → same_sym f f ≡ true
-sym-itself f = (and-both (same_sym f f) true (same-refl (name f))).0
+use Rattle.proof_contexts.specs.Laws.{ExpansionIsFinal}
 
 -- nothing is shifted by 0
 mutual
@@ -66,18 +65,6 @@ mutual
   subs-subs s r end = refl
   subs-subs s r (part e ps) = λ i. part (sub-sub s r e i) (subs-subs s r ps i)
 
--- maps that agree on every symbol
-mutual
-  sub-same : (s r : Sym → Option Tree) (e : Tree) → ((f : Sym) → s f ≡ r f) → sub s e ≡ sub r e
-  sub-same s r (bound i) h = refl
-  sub-same s r (app f ps) h = λ i. apply_body (h f i) f (subs-same s r ps h i)
-  sub-same s r (node k ns ps) h = ap (node k ns) (subs-same s r ps h)
-  sub-same s r (bind b ps e) h = λ i. bind b (subs-same s r ps h i) (sub-same s r e h i)
-
-  subs-same : (s r : Sym → Option Tree) (ps : Parts) → ((f : Sym) → s f ≡ r f) → subs s ps ≡ subs r ps
-  subs-same s r end h = refl
-  subs-same s r (part e ps) h = λ i. part (sub-same s r e h i) (subs-same s r ps h i)
-
 -- the map of no symbol
 abbrev no_symbol : Sym → Option Tree
 no_symbol f = None
@@ -125,7 +112,7 @@ chosen-expands s u (d ∷ ds) h = go (has_number u d.symbol.number) (chosen-expa
     go false k = k
 
 sub-put_in : (s : Sym → Option Tree) (d : Definition) (e : Tree) → Expands s d → sub s (put_in d e) ≡ sub s e
-sub-put_in s d e h = sub-sub s (at d.symbol d.body) e ∙ sub-same (after_map s (at d.symbol d.body)) s e (λ f. absorb f (same_sym d.symbol f) refl)
+sub-put_in s d e h = sub-sub s (at d.symbol d.body) e ∙ (λ i. sub (λ f. absorb f (same_sym d.symbol f) refl i) e)
   where
     absorb : (f : Sym) (b : Bool) → same_sym d.symbol f ≡ b → then_map s (if_there b d.body) (s f) ≡ s f
     absorb f true e = sym h ∙ ap s (sym-same d.symbol f e)
@@ -327,7 +314,7 @@ module _ (rank : Sym → ℕ) where
       ∙ go (same_sym e.symbol d.symbol) refl
     where
       go : (b : Bool) → same_sym e.symbol d.symbol ≡ b → if_there b e.body ≡ None
-      go true q = absurd (differ (same_sym d.symbol e.symbol) h.0 (ap (same_sym d.symbol) (sym-same e.symbol d.symbol q) ∙ sym-itself d.symbol))
+      go true q = absurd (differ (same_sym d.symbol e.symbol) h.0 (ap (same_sym d.symbol) (sym-same e.symbol d.symbol q) ∙ sym-refl d.symbol))
         where
           differ : (b : Bool) → b ≡ false → b ≡ true → ⊥
           differ b p q = cc
@@ -353,10 +340,17 @@ module _ (rank : Sym → ℕ) where
       here : Expands (expansion (d ∷ ds)) d
       here =
           ap (λ (o : Option Tree). then_map (at d.symbol d.body) o (at d.symbol d.body d.symbol)) (first-none d ds o.1)
-          ∙ ap (λ (b : Bool). if_there b d.body) (sym-itself d.symbol)
+          ∙ ap (λ (b : Bool). if_there b d.body) (sym-refl d.symbol)
           ∙ ap Some (sym (sub-low (expansion (d ∷ ds)) (rank d.symbol) d.body low_at o.0))
 
 -- a map over a list of formulas
 pub map-whole : (ds : List Definition) (es : List Tree) → map (unfolded ds) es ≡ map (whole ds) es
 map-whole ds [] = refl
 map-whole ds (e ∷ es) = λ i. unfolded-whole ds e i ∷ map-whole ds es i
+
+pub expansion_final : ExpansionIsFinal
+expansion_final rank table o u e =
+    let x = chosen-expands (expansion table) u table (expands rank table o) in (
+      unfolded-whole table (unfolded_by table u e) ∙ sub-unfolded (expansion table) (chosen u table) e x ∙ sym (unfolded-whole table e),
+      unfolded-whole table (unfold_head (chosen u table) e) ∙ sub-head (expansion table) (chosen u table) e x ∙ sym (unfolded-whole table e),
+    )

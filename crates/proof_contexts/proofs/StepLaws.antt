@@ -18,7 +18,7 @@ use Rattle.proof_contexts.specs.Steps.Fact.{Cited, Plain}
 use Rattle.proof_contexts.specs.Contexts.{Entry, Context, Pair, told, usable, add, with_goal, with_items, fact_of, picked, as_all, as_ex, as_imp, as_and, as_in, given, usable_of, unfolded_by, same_set, if_within, within, all_in, ex_in}
 use Rattle.proof_contexts.specs.Leaves.{plain_leaves, AreProved}
 use Rattle.proof_contexts.specs.Right.{IsGood, IsNew, level_items, RightItems, RightFacts}
-use Rattle.proof_contexts.proofs.Rules.{HasAll-itself}
+use Rattle.proof_contexts.proofs.Rules.{HasAll-itself, left_true, right_true}
 use Rattle.proof_contexts.proofs.Putting.{shift_nothing, expansion, whole, ExpandsAll, IsFalling, undefined-none, inst-abstract, Below-more}
 use Rattle.proof_contexts.proofs.Joins.{cut_in, imp_r, and_l, new_all, new_ex}
 use Rattle.proof_contexts.proofs.Covering.{plains, usable_covered, Holds, Holds-more, Holds-cons, Holds-add, Good-full, from_leaf}
@@ -48,14 +48,6 @@ as_and-is _ q h = cc
 as_in-is : (e : Tree) (q : Pair) → as_in e ≡ Some q → e ≡ in_ q.first q.second
 as_in-is (in_ a b) q h = let w = some_pair a b q h in λ i. in_ (w.0 i) (w.1 i)
 as_in-is _ q h = cc
-
-left_true : (a b : Bool) → a && b ≡ true → a ≡ true
-left_true true b h = refl
-left_true false b h = h
-
-right_true : (a b : Bool) → a && b ≡ true → b ≡ true
-right_true true b h = h
-right_true false b h = cc
 
 some_cond : (b : Bool) (x y : Tree) → cond b (Some x) None ≡ Some y → (b ≡ true) × (x ≡ y)
 some_cond true x y h = (refl, cc)

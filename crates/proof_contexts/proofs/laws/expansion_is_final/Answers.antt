@@ -1,4 +1,4 @@
-use Rattle.proof_contexts.proofs.Expansions.{expansion_final}
+use Rattle.proof_contexts.proofs.Putting.{expansion_final}
 use Rattle.proof_contexts.proofs.laws.expansion_is_final.Goals as goal
 
 pub returns : goal.returns
