@@ -1,0 +1,5 @@
+mod Substituted
+mod Differs
+mod Rounds
+mod Contracts
+mod Worked

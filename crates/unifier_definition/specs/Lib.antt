@@ -1,0 +1,3 @@
+pub mod Metas
+pub mod Unify
+pub mod Laws
