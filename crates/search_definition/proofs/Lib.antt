@@ -1,0 +1,5 @@
+mod Trace
+mod Worked
+mod WorkedCantor
+mod WorkedCases
+mod WorkedSets
