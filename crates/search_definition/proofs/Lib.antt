@@ -3,3 +3,7 @@ mod Worked
 mod WorkedCantor
 mod WorkedCases
 mod WorkedSets
+mod Positions
+mod Closings
+mod Watching
+mod Falling

@@ -90,7 +90,7 @@ chosen_term_taken_up : trace ([]) (imp_ (and_ (name 0 1 (part (choose_ (name 1 1
 unfolding trace search steps turn first_rule apply closing truth grounds signed_atoms instance_term found_term
 chosen_term_taken_up = refl
 
--- closed in 27 turns
-boolean_and_enumerations : trace ([]) (imp_ (and_ (in_ (name 0 0 end) boolean_) (not_ (eq_ (name 0 0 end) true_))) (and_ (eq_ (name 0 0 end) false_) (not_ (eq_ (enum_ (part (num_ 0 1) (part (num_ 0 2) end))) (enum_ (part (num_ 0 1) (part (num_ 0 3) end))))))) 100 ≡ 1003 ∷ 1001 ∷ 1109 ∷ 5001 ∷ 4000 ∷ 4000 ∷ 5001 ∷ 1000 ∷ 3000 ∷ 10000 ∷ 7003 ∷ 7000 ∷ 4000 ∷ 5000 ∷ 10000 ∷ 5001 ∷ 1002 ∷ 3 ∷ 4000 ∷ 5001 ∷ 5 ∷ 1002 ∷ 1002 ∷ 10000 ∷ 5001 ∷ 1002 ∷ 3 ∷ 77777 ∷ []
+-- closed in 18 turns, with a side dropped
+boolean_and_enumerations : trace ([]) (imp_ (and_ (in_ (name 0 0 end) boolean_) (not_ (eq_ (name 0 0 end) true_))) (and_ (eq_ (name 0 0 end) false_) (not_ (eq_ (enum_ (part (num_ 0 1) (part (num_ 0 2) end))) (enum_ (part (num_ 0 1) (part (num_ 0 3) end))))))) 100 ≡ 1003 ∷ 1001 ∷ 1109 ∷ 5001 ∷ 4000 ∷ 4000 ∷ 5001 ∷ 1000 ∷ 3000 ∷ 10000 ∷ 7003 ∷ 7000 ∷ 4000 ∷ 5000 ∷ 10000 ∷ 5001 ∷ 1002 ∷ 3 ∷ 77777 ∷ []
 unfolding trace search steps turn first_rule apply closing truth grounds signed_atoms instance_term found_term
 boolean_and_enumerations = refl

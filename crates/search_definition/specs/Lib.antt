@@ -8,3 +8,5 @@ pub mod Splits
 pub mod Instances
 pub mod Needs
 pub mod Search
+pub mod Watches
+pub mod Laws

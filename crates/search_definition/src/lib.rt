@@ -2,6 +2,10 @@
 //! list of its steps, in the form in which fast code is shown to be equal to it. `docs/SEARCH.md` says it in words.
 #![tactic(auto)]
 
+mod laws;
 mod rule;
 
+pub use laws::{
+    closing_added, closing_stays, closing_used, falling_contains, falling_first, falling_union, falling_without, oldest_found, oldest_from, oldest_none, position_kept, position_stays, position_used, settle_stays, used_stays, value_stays,
+};
 pub use rule::{Clash, Rank, Rule};

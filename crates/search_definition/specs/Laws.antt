@@ -1,0 +1,82 @@
+-- What is proved of the search's definition. Each statement is the contract of a function of src/laws.rt.
+use Rattle.std.specs.Prelude.{◌≡◌, ℕ, suc, ◌<◌, ◌≤◌, ◌||◌, Bool, true, false, nat_eq, Option, Some, None, List, [], ◌∷◌, ◌++◌, length, drop}
+use Rattle.core_expr.specs.Tree.{Tree}
+use Rattle.search_definition.specs.Branches.{Branch, Closing, closing, closes_with, formulas, has, add, used}
+use Rattle.search_definition.specs.Values.{truth, grounds}
+use Rattle.search_definition.specs.Rules.{Step, Result, oldest}
+use Rattle.search_definition.specs.Splits.{settle}
+use Rattle.search_definition.specs.Needs.{contains, union, without}
+use Rattle.search_definition.specs.Watches.{watch, watched, touches, Apart, entry_at, NoneBefore, FallsFrom}
+
+-- a formula that is added leaves the value and the grounds of a formula that watches nothing that it touches
+abbrev pub ValueStays : Type 0
+ValueStays = (b : Branch) (f g : Tree) → Apart (touches f) (watch g) → (truth (add b f) g ≡ truth b g) × (grounds (add b f) g ≡ grounds b g)
+
+-- so it leaves how an entry settles that watches nothing that it touches
+abbrev pub SettleStays : Type 0
+SettleStays = (b : Branch) (f e : Tree) → Apart (touches f) (watched e) → settle (add b f) e ≡ settle b e
+
+-- using an entry changes neither what stands on the branch nor any value
+abbrev pub UsedStays : Type 0
+UsedStays = (stays rises : Bool) (b : Branch) (i : ℕ) (g : Tree) → (has (used stays rises b i) g ≡ has b g) × (truth (used stays rises b i) g ≡ truth b g) × (grounds (used stays rises b i) g ≡ grounds b g)
+
+-- where no live entry before the position fits, the search for the oldest starts at the position
+abbrev pub OldestFrom : Type 0
+OldestFrom = (rule : Tree → Option Step) (k : ℕ) (b : Branch) → k ≤ length b → NoneBefore rule k b → oldest rule 0 b ≡ oldest rule k (drop k b)
+
+-- the oldest is the entry at the position, where that fits
+abbrev pub OldestFound : Type 0
+OldestFound =
+    (rule : Tree → Option Step) (k : ℕ) (b : Branch) (s : Step) → NoneBefore rule k b → k < length b → (entry_at b k).live ≡ true → rule (entry_at b k).formula ≡ Some s
+    → oldest rule 0 b ≡ Some (record { entry = k; step = s })
+
+-- there is none, where the position is the end
+abbrev pub OldestNone : Type 0
+OldestNone = (rule : Tree → Option Step) (k : ℕ) (b : Branch) → NoneBefore rule k b → length b ≤ k → oldest rule 0 b ≡ None
+
+-- a position stays right when a formula is added, for a rule that looks at the formula alone
+abbrev pub PositionStays : Type 0
+PositionStays = (rule : Tree → Option Step) (k : ℕ) (b : Branch) (f : Tree) → k ≤ length b → NoneBefore rule k b → NoneBefore rule k (add b f)
+
+-- a position stays right for a rule that depends on the branch, if what it does not fit it does not fit after the addition
+abbrev pub PositionKept : Type 0
+PositionKept =
+    (rule : Branch → Tree → Option Step) (k : ℕ) (b : Branch) (f : Tree) → k ≤ length b → ((g : Tree) → rule b g ≡ None → rule (add b f) g ≡ None) → NoneBefore (rule b) k b
+    → NoneBefore (rule (add b f)) k (add b f)
+
+-- a position stays right when an entry dies, for a rule that looks at the formula alone
+abbrev pub PositionUsed : Type 0
+PositionUsed = (rule : Tree → Option Step) (k : ℕ) (rises : Bool) (b : Branch) (i : ℕ) → NoneBefore rule k b → NoneBefore rule k (used false rises b i)
+
+-- the closing of a branch that did not close, after a formula is added: that of the new formula with the older ones
+abbrev pub ClosingAdded : Type 0
+ClosingAdded = (b : Branch) (f : Tree) → closing b ≡ None → has b f ≡ false → closing (add b f) ≡ closes_with (formulas b) f
+
+-- once a branch closes, further formulas leave the closing
+abbrev pub ClosingStays : Type 0
+ClosingStays = (b : Branch) (f : Tree) (c : Closing) → closing b ≡ Some c → closing (add b f) ≡ Some c
+
+-- using an entry changes no closing
+abbrev pub ClosingUsed : Type 0
+ClosingUsed = (stays rises : Bool) (b : Branch) (i : ℕ) → closing (used stays rises b i) ≡ closing b
+
+-- n is the first of the list
+abbrev pub is_first : List ℕ → ℕ → Bool
+is_first [] n = false
+is_first (m ∷ ms) n = nat_eq m n
+
+-- in a falling set whose numbers are at most n, n is in it exactly where it is the first
+abbrev pub FallingContains : Type 0
+FallingContains = (n : ℕ) (u : List ℕ) → FallsFrom (suc n) u → contains u n ≡ is_first u n
+
+-- a falling set without its first number is the rest, and a set of smaller numbers stays
+abbrev pub FallingWithout : Type 0
+FallingWithout = (n : ℕ) (u : List ℕ) → FallsFrom n u → (without (n ∷ u) n ≡ u) × (without u n ≡ u)
+
+-- the union of falling sets falls, and has the members of both
+abbrev pub FallingUnion : Type 0
+FallingUnion = (n : ℕ) (u k : List ℕ) → FallsFrom n u → FallsFrom n k → FallsFrom n (union u k) × ((x : ℕ) → contains (union u k) x ≡ (contains u x || contains k x))
+
+-- the union of a number above a falling set with it puts the number in front
+abbrev pub FallingFirst : Type 0
+FallingFirst = (n : ℕ) (u : List ℕ) → FallsFrom n u → union (n ∷ []) u ≡ n ∷ u
