@@ -1,2 +1,4 @@
-mod Full
+mod Shown
+mod New
+mod Old
 mod Rows

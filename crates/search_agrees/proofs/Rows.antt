@@ -8,7 +8,9 @@ use Rattle.search_definition.specs.Branches.{closing}
 use Rattle.search_definition.specs.Values.{truth, grounds}
 use Rattle.search_definition.specs.Instances.{signed_atoms, instance_term, found_term}
 use Rattle.search_definition.specs.Search.{turn, first_rule, apply}
-use Rattle.search_agrees.proofs.Full.{name, constant, unary, binary, new_full, old_full}
+use Rattle.search_agrees.proofs.Shown.{name, constant, unary, binary}
+use Rattle.search_agrees.proofs.New.{new_full}
+use Rattle.search_agrees.proofs.Old.{old_full}
 
 implication_to_itself : new_full ([]) (imp_ (name 0 0 end) (name 0 0 end)) 100 ≡ old_full 1 ([]) (imp_ (name 0 0 end) (name 0 0 end)) 100
 unfolding new_full old_full turn first_rule apply closing truth grounds signed_atoms instance_term found_term

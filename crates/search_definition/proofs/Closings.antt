@@ -2,7 +2,7 @@
 use Rattle.std.proofs.Common.{◌≡◌, ℕ, zero, suc, Bool, true, false, Option, Some, None, List, [], ◌∷◌, ◌++◌, refl, ap, sym, ◌∙◌, append_assoc}
 use Rattle.core_expr.specs.Tree.{Tree}
 use Rattle.search_definition.specs.Terms.{if_so, or_else}
-use Rattle.search_definition.specs.Branches.{Entry, Branch, Closing, closing, closing_from, closes_with, formulas, has, add, used}
+use Rattle.search_definition.specs.Branches.{Entry, Branch, Closing, closing, closing_from, closes_with, formulas, has, used}
 use Rattle.search_definition.specs.Laws.{ClosingAdded, ClosingUsed, ClosingStays}
 
 no_parts : (o p : Option Closing) → or_else o p ≡ None → (o ≡ None) × (p ≡ None)

@@ -1,10 +1,10 @@
 -- Falling lists.
-use Rattle.std.proofs.Common.{◌≡◌, ◌⊎◌, ℕ, suc, ◌+◌, ◌<◌, ◌≤◌, Bool, true, false, ◌||◌, List, [], ◌∷◌, refl, ap, sym, ◌∙◌, arith, eqb, ltb, eq-eqb, inl, inr}
-use Rattle.std.proofs.lemmas.Bool.{cases_eq, cases_lt, cases_order, ne_eqb, eqb-true, eqb-false, ltb-true, ltb-false, lt-ltb, le-ltb}
+use Rattle.std.proofs.Common.{◌≡◌, ℕ, ◌<◌, ◌≤◌, Bool, true, false, ◌||◌, List, [], ◌∷◌, refl, ap, sym, ◌∙◌, arith, eqb, ltb, eq-eqb}
+use Rattle.std.proofs.lemmas.Bool.{ne_eqb, eqb-true, eqb-false, ltb-true, ltb-false, le-ltb}
 use Rattle.search_definition.specs.Terms.{if_so, either}
 use Rattle.search_definition.specs.Needs.{contains, union, without, merge_into}
 use Rattle.search_definition.specs.Watches.{FallsFrom}
-use Rattle.search_definition.specs.Laws.{is_first, FallingContains, FallingUnion, FallingWithout, FallingFirst}
+use Rattle.search_definition.specs.Laws.{FallingContains, FallingUnion, FallingWithout, FallingFirst}
 
 weaker : (m n : ℕ) (u : List ℕ) → m ≤ n → FallsFrom m u → FallsFrom n u
 weaker m n [] l h = tt
@@ -46,7 +46,6 @@ or_true false = refl
 or_three : (a b c : Bool) → (a || (b || c)) ≡ ((a || b) || c)
 or_three true b c = refl
 or_three false b c = refl
-
 
 or_none : (a : Bool) → (a || false) ≡ a
 or_none true = refl
@@ -99,7 +98,7 @@ in_merge_into n x ns more h (k ∷ ks) = lt (ltb n k) (in_merge_into n x ns more
         ∙ ap (λ b. contains (n ∷ ns) x || b) (sym (either_or k x ks))
     lt false r = eq (eqb n k) refl
 
-in_merge : (ns ks : List ℕ) (x : ℕ) → contains (union ns ks) x ≡ (contains ns x || contains ks x)
+pub in_merge : (ns ks : List ℕ) (x : ℕ) → contains (union ns ks) x ≡ (contains ns x || contains ks x)
 in_merge [] ks x = refl
 in_merge (n ∷ ns) ks x = in_merge_into n x ns (union ns) (λ js. in_merge ns js x) ks
 

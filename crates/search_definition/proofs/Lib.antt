@@ -7,3 +7,6 @@ mod Positions
 mod Closings
 mod Watching
 mod Falling
+mod Needing
+mod Uses
+mod Treeing

@@ -1,7 +1,7 @@
 -- The turns of a search as numbers, for the worked obligations.
 -- A turn that closes a branch is the case of its closing, 0 to 6. A turn by a rule is 1000 times its rank, and its case: 7003 is
 -- a split of an equivalence. The list ends with 77777 where the search ends closed, 88888 saturated, 99999 spent.
-use Rattle.std.specs.Prelude.{ℕ, ◌+◌, ◌*◌, Option, List, [], ◌∷◌, Bool}
+use Rattle.std.specs.Prelude.{ℕ, ◌+◌, ◌*◌, List, [], ◌∷◌}
 use Rattle.core_expr.specs.declared.head.SymKind.TheVariants.{Canon}
 use Rattle.core_expr.specs.Tree.{Tree, Parts}
 use Rattle.core_expr.specs.Tree.Tree.{app}

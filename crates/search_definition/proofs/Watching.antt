@@ -1,17 +1,17 @@
 -- Values after a formula is added, and after an entry is used.
-use Rattle.std.proofs.Common.{◌≡◌, ◌⊎◌, ℕ, zero, suc, Bool, true, false, Option, Some, None, List, [], ◌∷◌, ◌++◌, refl, ap, sym, ◌∙◌, subst, inl, inr}
+use Rattle.std.proofs.Common.{◌≡◌, ℕ, zero, suc, Bool, true, false, Option, Some, None, List, [], ◌∷◌, ◌++◌, refl, ap, sym, ◌∙◌, subst, inl, inr}
 use Rattle.std.proofs.lemmas.Bool.{cases_Bool}
-use Rattle.core_expr.specs.Tree.{Tree, true_, false_, not_, and_, or_, imp_, iff_, eq_}
+use Rattle.core_expr.specs.Tree.{Tree, not_, and_, or_, imp_, iff_, eq_}
 use Rattle.core_expr.specs.Terms.{same}
 use Rattle.core_expr.specs.Equal.{same-true}
 use Rattle.search_definition.specs.Terms.{if_so, either, after, or_else, when}
 use Rattle.search_definition.specs.Branches.{Entry, Branch, has, add, used}
-use Rattle.search_definition.specs.Values.{Truth, Whole, opposite, both_true, one_true, same_truth, implied, is_plainly_true, is_plainly_false, has_mirror, has_not_mirror, whole, truth_by, truth, grounds_by, grounds, merged, where_known, is_yes, is_no, all_yes, some_no, first_no}
-use Rattle.search_definition.specs.Values.Truth.{Yes, No, Unknown}
+use Rattle.search_definition.specs.Values.{Whole, opposite, both_true, one_true, same_truth, implied, is_plainly_true, is_plainly_false, has_mirror, has_not_mirror, whole, truth_by, truth, grounds_by, grounds, merged, where_known, is_yes, is_no, all_yes, some_no, first_no}
+use Rattle.search_definition.specs.Values.Truth.{Unknown}
 use Rattle.search_definition.specs.Values.Whole.{Stands, ByItself, Mirrored, NotStands, FalseItself, NotMirrored, Undecided}
 use Rattle.search_definition.specs.declared.rule.Rule.TheVariants.{FalseLeft, FalseRight}
 use Rattle.search_definition.specs.Rules.{Step, gives}
-use Rattle.search_definition.specs.Splits.{Splitting, splitting, Settled, settled, settle_as, settle_split, settle}
+use Rattle.search_definition.specs.Splits.{Splitting, splitting, Settled, settled, settle_as, settle_split}
 use Rattle.search_definition.specs.Splits.Settled.{OneTrue, LeftFalse, RightFalse}
 use Rattle.search_definition.specs.Watches.{watch, watch_all, watch_sides, watched, touches, In, Apart}
 use Rattle.search_definition.specs.Laws.{ValueStays, SettleStays, UsedStays}
@@ -138,7 +138,7 @@ same_after b f h n =
       here = has_added b f h (λ e. n (subst (λ x. In x (touches f)) e (touches_self f)));
       denied = has_added b f (not_ h) (λ e. n (subst (λ x. In h (touches x)) (sym e) (touches_part h)));
       mirrored = mirror_after b f h n;
-      not_mirrored = not_mirror_after b f h n
+      not_mirrored = not_mirror_after b f h n;
     }
 
 all_after : (b : Branch) (f : Tree) (hs : List Tree) → Apart (touches f) hs → AllSame b (add b f) hs

@@ -1,14 +1,14 @@
 -- The two steps of Cantor's theorem that are left to the search, with all their turns.
 use Rattle.std.specs.Prelude.{◌≡◌, [], ◌∷◌}
 use Rattle.std.proofs.Common.{refl}
-use Rattle.core_expr.specs.Tree.{Tree, true_, false_, boolean_, not_, and_, or_, imp_, iff_, eq_, in_, subseteq_, cup_, cap_, diff_, power_, union_, funset_, dom_, apply_, except_, if_, enum_, tuple_, num_, str_, all_, ex_, choose_, filter_, image_, fun_}
+use Rattle.core_expr.specs.Tree.{not_, eq_, in_, power_, funset_, apply_, filter_}
 use Rattle.core_expr.specs.Tree.Tree.{bound}
-use Rattle.core_expr.specs.Tree.Parts.{end, part}
+use Rattle.core_expr.specs.Tree.Parts.{end}
 use Rattle.search_definition.specs.Branches.{closing}
 use Rattle.search_definition.specs.Values.{truth, grounds}
 use Rattle.search_definition.specs.Instances.{signed_atoms, instance_term, found_term}
 use Rattle.search_definition.specs.Search.{search, steps, turn, first_rule, apply}
-use Rattle.search_definition.proofs.Trace.{name, constant, unary, binary, trace}
+use Rattle.search_definition.proofs.Trace.{name, trace}
 
 -- closed in 8 turns
 cantor_diagonal_is_a_subset : trace ((in_ (name 0 0 end) (funset_ (name 1 0 end) (power_ (name 1 0 end)))) ∷ []) (in_ (filter_ (name 1 0 end) (not_ (in_ (bound 0) (apply_ (name 0 0 end) (bound 0))))) (power_ (name 1 0 end))) 100 ≡ 1004 ∷ 1205 ∷ 1210 ∷ 6001 ∷ 1003 ∷ 1107 ∷ 1001 ∷ 2 ∷ 77777 ∷ []

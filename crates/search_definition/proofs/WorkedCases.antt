@@ -2,14 +2,14 @@
 -- Written forms: A, B, C, a, b, c, X, Y, S, T are constants, f, g, P operators, w the spare term; m is a metavariable.
 use Rattle.std.specs.Prelude.{◌≡◌, [], ◌∷◌}
 use Rattle.std.proofs.Common.{refl}
-use Rattle.core_expr.specs.Tree.{Tree, true_, false_, boolean_, not_, and_, or_, imp_, iff_, eq_, in_, subseteq_, cup_, cap_, diff_, power_, union_, funset_, dom_, apply_, except_, if_, enum_, tuple_, num_, str_, all_, ex_, choose_, filter_, image_, fun_}
+use Rattle.core_expr.specs.Tree.{true_, false_, boolean_, not_, and_, or_, imp_, iff_, eq_, in_, cup_, cap_, diff_, union_, funset_, dom_, apply_, if_, enum_, tuple_, num_, str_, all_, ex_, choose_, filter_, image_, fun_}
 use Rattle.core_expr.specs.Tree.Tree.{bound}
 use Rattle.core_expr.specs.Tree.Parts.{end, part}
 use Rattle.search_definition.specs.Branches.{closing}
 use Rattle.search_definition.specs.Values.{truth, grounds}
 use Rattle.search_definition.specs.Instances.{signed_atoms, instance_term, found_term}
 use Rattle.search_definition.specs.Search.{search, steps, turn, first_rule, apply}
-use Rattle.search_definition.proofs.Trace.{name, constant, unary, binary, trace}
+use Rattle.search_definition.proofs.Trace.{constant, unary, binary, trace}
 
 -- FALSE, ~A. Turn 1: FALSE closes, case 0.
 false_among_the_facts : trace ((false_) ∷ []) (constant 0) 100 ≡ 0 ∷ 77777 ∷ []

@@ -1,14 +1,14 @@
 -- Small obligations with all their turns: sets, functions, tuples, IF and CHOOSE.
 use Rattle.std.specs.Prelude.{◌≡◌, [], ◌∷◌}
 use Rattle.std.proofs.Common.{refl}
-use Rattle.core_expr.specs.Tree.{Tree, true_, false_, boolean_, not_, and_, or_, imp_, iff_, eq_, in_, subseteq_, cup_, cap_, diff_, power_, union_, funset_, dom_, apply_, except_, if_, enum_, tuple_, num_, str_, all_, ex_, choose_, filter_, image_, fun_}
+use Rattle.core_expr.specs.Tree.{true_, false_, boolean_, not_, and_, imp_, eq_, in_, subseteq_, cup_, cap_, power_, funset_, dom_, apply_, except_, if_, enum_, tuple_, num_, all_, ex_, choose_, filter_, image_, fun_}
 use Rattle.core_expr.specs.Tree.Tree.{bound}
 use Rattle.core_expr.specs.Tree.Parts.{end, part}
 use Rattle.search_definition.specs.Branches.{closing}
 use Rattle.search_definition.specs.Values.{truth, grounds}
 use Rattle.search_definition.specs.Instances.{signed_atoms, instance_term, found_term}
 use Rattle.search_definition.specs.Search.{search, steps, turn, first_rule, apply}
-use Rattle.search_definition.proofs.Trace.{name, constant, unary, binary, trace}
+use Rattle.search_definition.proofs.Trace.{name, trace}
 
 -- closed in 6 turns
 intersection_lies_in_the_union : trace ([]) (imp_ (in_ (name 0 0 end) (cap_ (name 1 0 end) (name 2 0 end))) (in_ (name 0 0 end) (cup_ (name 1 0 end) (name 2 0 end)))) 100 ≡ 1003 ∷ 1103 ∷ 1202 ∷ 1001 ∷ 1002 ∷ 2 ∷ 77777 ∷ []

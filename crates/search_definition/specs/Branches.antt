@@ -107,9 +107,9 @@ partner k test f g = when (either (test f g) (test g f)) (record { clash = k; en
 abbrev pub closes_with : List Tree → Tree → Option Closing
 closes_with older f =
     or_else (alone f (shuts_first f)) (
-      or_else (first_some (partner Denied is_not_of f) older) (
-        or_else (alone f (shuts_third f)) (or_else (first_some (partner DeniedMirror is_mirror_not f) older) (alone f (shuts_last f)))
-      )
+    or_else (first_some (partner Denied is_not_of f) older) (
+    or_else (alone f (shuts_third f)) (or_else (first_some (partner DeniedMirror is_mirror_not f) older) (alone f (shuts_last f)))
+    )
     )
 
 -- the first closing of a formula of the second list, where older stood before it

@@ -1,5 +1,5 @@
 -- The ranks derive, replace and extension: what equations and their Nots give.
-use Rattle.std.specs.Prelude.{Bool, true, false, not, Option, Some, None, List, [], ◌∷◌}
+use Rattle.std.specs.Prelude.{Bool, true, false, not, Option, Some, None, [], ◌∷◌}
 use Rattle.core_expr.specs.declared.head.Head.TheVariants.{Enum, Cup, Cap, Diff, Power, Union, FunSet}
 use Rattle.core_expr.specs.declared.head.Binder.TheVariants.{Filter, Image}
 use Rattle.core_expr.specs.Tree.{Tree, boolean_, not_, imp_, iff_, eq_, in_, dom_, apply_, all_, fun_}
@@ -65,7 +65,7 @@ lacks b f g = either (not (has b f)) (not (has b g))
 abbrev pub derive_fun : Branch → Tree → Tree → Tree → Option Step
 derive_fun b f g (fun_ s e) =
     step_if (not (either (is_fun g) (same e (apply_ (shift 0 1 g) (bound 0))))) (
-      step_if (lacks b (eq_ (dom_ g) s) (at_all g s e)) (gives FunctionValues (f ∷ []) (g ∷ []) (eq_ (dom_ g) s ∷ at_all g s e ∷ []))
+    step_if (lacks b (eq_ (dom_ g) s) (at_all g s e)) (gives FunctionValues (f ∷ []) (g ∷ []) (eq_ (dom_ g) s ∷ at_all g s e ∷ []))
     )
 derive_fun b f g _ = None
 

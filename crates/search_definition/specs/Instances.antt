@@ -2,22 +2,22 @@
 use Rattle.std.specs.Prelude.{ℕ, zero, suc, ◌+◌, ◌*◌, Bool, true, false, not, nat_le, nat_eq, Option, Some, None, List, [], ◌∷◌, ◌++◌}
 use Rattle.core_expr.specs.declared.head.Sym.{Sym}
 use Rattle.core_expr.specs.declared.head.SymKind.TheVariants.{Canon}
-use Rattle.core_expr.specs.Tree.{Tree, Parts, true_, false_, not_, and_, or_, imp_, iff_, eq_, in_, all_, ex_, filter_}
+use Rattle.core_expr.specs.Tree.{Tree, true_, false_, not_, and_, or_, imp_, iff_, eq_, in_, all_, ex_, filter_}
 use Rattle.core_expr.specs.Tree.Tree.{bound, app, node}
 use Rattle.core_expr.specs.Tree.Parts.{end}
 use Rattle.core_expr.specs.Put.{inst}
 use Rattle.core_expr.specs.Terms.{nodes}
-use Rattle.unifier_definition.specs.Metas.{listed, has_meta, assign}
-use Rattle.unifier_definition.specs.Unify.{Binding, mgu, bound_to}
+use Rattle.unifier_definition.specs.Metas.{has_meta, assign}
+use Rattle.unifier_definition.specs.Unify.{mgu, bound_to}
 use Rattle.search_definition.specs.declared.rule.Rule.{Rule}
 use Rattle.search_definition.specs.declared.rule.Rule.TheVariants as rule
 use Rattle.search_definition.specs.Terms.{if_so, either, when, or_else, after, first_some, closed_subterms}
 use Rattle.search_definition.specs.Branches.{Branch, alive, has}
 use Rattle.search_definition.specs.Values.{truth, is_yes}
-use Rattle.search_definition.specs.Rules.{Step, Result}
+use Rattle.search_definition.specs.Rules.{Result}
 use Rattle.search_definition.specs.Rules.Sides.{Alone}
 use Rattle.search_definition.specs.Plain.{Left, left_side}
-use Rattle.search_definition.specs.Splits.{is_logical, is_literal}
+use Rattle.search_definition.specs.Splits.{is_literal}
 
 -- The symbols that no formula of a search has, all of them constants: the number of the spare symbol, and the first number of the metavariables.
 pub record Fresh : Type 0 where
@@ -205,9 +205,9 @@ at_sides b w u a _ = None
 abbrev pub by_atom : Branch → Fresh → Universal → Signed → Option Tree
 by_atom b w u a =
     or_else (after (new_term b u) (sides_term w a)) (
-      or_else (first_some (at_literal b w u a) (alive b)) (
-        or_else (first_some (at_universal b w u a) (alive b)) (if_so a.holds (at_sides b w u a a.atom) None)
-      )
+    or_else (first_some (at_literal b w u a) (alive b)) (
+    or_else (first_some (at_universal b w u a) (alive b)) (if_so a.holds (at_sides b w u a a.atom) None)
+    )
     )
 
 -- the term of the first new instance of the universal, by its atoms in order and their partners in order

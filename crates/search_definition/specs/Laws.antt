@@ -1,11 +1,15 @@
 -- What is proved of the search's definition. Each statement is the contract of a function of src/laws.rt.
-use Rattle.std.specs.Prelude.{◌≡◌, ℕ, suc, ◌<◌, ◌≤◌, ◌||◌, Bool, true, false, nat_eq, Option, Some, None, List, [], ◌∷◌, ◌++◌, length, drop}
+use Rattle.std.specs.Prelude.{◌≡◌, ℕ, suc, ◌<◌, ◌≤◌, ◌||◌, Bool, true, false, nat_eq, Option, Some, None, List, [], ◌∷◌, length, drop}
 use Rattle.core_expr.specs.Tree.{Tree}
 use Rattle.search_definition.specs.Branches.{Branch, Closing, closing, closes_with, formulas, has, add, used}
 use Rattle.search_definition.specs.Values.{truth, grounds}
-use Rattle.search_definition.specs.Rules.{Step, Result, oldest}
+use Rattle.search_definition.specs.Rules.{Step, oldest}
 use Rattle.search_definition.specs.Splits.{settle}
 use Rattle.search_definition.specs.Needs.{contains, union, without}
+use Rattle.search_definition.specs.Instances.{Fresh}
+use Rattle.search_definition.specs.Search.{search, steps, fresh, start_branch}
+use Rattle.search_definition.specs.Search.End.{Closed}
+use Rattle.search_definition.specs.Trees.{Turns, IsClosedFor, IsSearched, turns, steps_of}
 use Rattle.search_definition.specs.Watches.{watch, watched, touches, Apart, entry_at, NoneBefore, FallsFrom}
 
 -- a formula that is added leaves the value and the grounds of a formula that watches nothing that it touches
@@ -80,3 +84,13 @@ FallingUnion = (n : ℕ) (u k : List ℕ) → FallsFrom n u → FallsFrom n k �
 -- the union of a number above a falling set with it puts the number in front
 abbrev pub FallingFirst : Type 0
 FallingFirst = (n : ℕ) (u : List ℕ) → FallsFrom n u → union (n ∷ []) u ≡ n ∷ u
+
+-- where the search ends closed, its steps are those of a tree that the search makes of the start branch, the step i being the turn i + 1, and the tree has as many turns as were used
+abbrev pub ClosedHasTree : Type 0
+ClosedHasTree =
+    (facts : List Tree) (goal : Tree) (limit used : ℕ) → search facts goal limit ≡ Closed used
+    → (t : Turns) × IsSearched (fresh facts goal) (start_branch facts goal) t × (steps facts goal limit ≡ steps_of 1 None (start_branch facts goal) t) × (turns t ≡ used)
+
+-- a tree that the search makes is closed for its branch
+abbrev pub SearchedIsClosed : Type 0
+SearchedIsClosed = (w : Fresh) (b : Branch) (t : Turns) → IsSearched w b t → IsClosedFor w b t

@@ -8,5 +8,6 @@ pub mod Splits
 pub mod Instances
 pub mod Needs
 pub mod Search
+pub mod Trees
 pub mod Watches
 pub mod Laws

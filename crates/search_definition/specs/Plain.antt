@@ -1,6 +1,6 @@
 -- The ranks plain, rewrite and choice: a formula gives others by itself.
-use Rattle.std.specs.Prelude.{ℕ, zero, suc, Bool, true, false, nat_eq, Option, Some, None, List, [], ◌∷◌, ◌++◌}
-use Rattle.core_expr.specs.Tree.{Tree, Parts, size, true_, false_, boolean_, not_, and_, or_, imp_, iff_, eq_, in_, subseteq_, cup_, cap_, diff_, power_, union_, funset_, dom_, apply_, except_, if_, enum_, tuple_, num_, all_, ex_, choose_, filter_, image_, fun_}
+use Rattle.std.specs.Prelude.{ℕ, zero, suc, nat_eq, Option, Some, None, List, [], ◌∷◌, ◌++◌}
+use Rattle.core_expr.specs.Tree.{Tree, Parts, size, true_, false_, boolean_, not_, and_, or_, imp_, eq_, in_, subseteq_, cup_, cap_, diff_, power_, union_, funset_, dom_, apply_, except_, if_, enum_, tuple_, num_, all_, ex_, choose_, filter_, image_, fun_}
 use Rattle.core_expr.specs.Tree.Tree.{bound}
 use Rattle.core_expr.specs.Put.{inst, shift}
 use Rattle.seq_calculus.specs.Schemas.{join, equals_each, equal_pairs, nth}

@@ -1,5 +1,5 @@
 -- What a rule does, and the rule at the oldest entry that it fits.
-use Rattle.std.specs.Prelude.{ℕ, zero, suc, ◌+◌, Bool, true, false, Option, Some, None, List, [], ◌∷◌}
+use Rattle.std.specs.Prelude.{ℕ, suc, ◌+◌, Bool, true, false, Option, Some, None, List, [], ◌∷◌}
 use Rattle.core_expr.specs.Tree.{Tree}
 use Rattle.search_definition.specs.declared.rule.Rank.{Rank}
 use Rattle.search_definition.specs.declared.rule.Rule.{Rule}

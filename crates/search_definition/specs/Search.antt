@@ -1,5 +1,5 @@
 -- The written search, second edition: turns, dropping, the run and its steps.
-use Rattle.std.specs.Prelude.{◌≡◌, ◌⊎◌, ℕ, zero, suc, ◌+◌, Bool, true, false, nat_eq, nat_le, Option, Some, None, List, [], ◌∷◌, ◌++◌, length}
+use Rattle.std.specs.Prelude.{◌≡◌, ℕ, zero, suc, Bool, not, nat_eq, nat_le, Option, Some, None, List, [], ◌∷◌, ◌++◌, length}
 use Rattle.core_expr.specs.declared.head.Sym.{Sym}
 use Rattle.core_expr.specs.Tree.{Tree, Parts, not_}
 use Rattle.core_expr.specs.Tree.Tree.{bound, app, node, bind}
@@ -8,8 +8,8 @@ use Rattle.unifier_definition.specs.Metas.{listed}
 use Rattle.search_definition.specs.declared.rule.Rank.{Rank}
 use Rattle.search_definition.specs.declared.rule.Rank.TheVariants as rank
 use Rattle.search_definition.specs.Terms.{if_so, first_some}
-use Rattle.search_definition.specs.Branches.{Branch, add_all, news, used, Closing, closing}
-use Rattle.search_definition.specs.Rules.{Sides, Step, Result, oldest, stays, stays_second, rises}
+use Rattle.search_definition.specs.Branches.{Branch, has, add_all, news, used, Closing, closing}
+use Rattle.search_definition.specs.Rules.{Sides, Result, oldest, stays, stays_second, rises}
 use Rattle.search_definition.specs.Rules.Sides.{Alone, Both}
 use Rattle.search_definition.specs.Plain.{plain, rewrite, choice}
 use Rattle.search_definition.specs.Equations.{derive, replace_rule, extension}
@@ -74,9 +74,13 @@ added_needs n r b needs = union (split_number n r.step.sides) (needs_of b needs 
 abbrev pub side_branch : Bool → Result → Branch → List Tree → Branch
 side_branch live r b fs = add_all (used live (rises r.step.rule) b r.entry) fs
 
+-- the open branch after these formulas are added, those that are new with the needs u
+abbrev pub grown : Branch → List (List ℕ) → List ℕ → List Turning → List Tree → Open
+grown b needs u path fs = record { branch = add_all b fs; needs = with_news needs u (news b fs); path = path }
+
 -- the open branch of a side, with the path
 abbrev pub side_open : Bool → Result → List ℕ → List Turning → Branch → List (List ℕ) → List Tree → Open
-side_open live r u path b needs fs = record { branch = side_branch live r b fs; needs = with_news needs u (news b fs); path = path }
+side_open live r u path b needs fs = grown (used live (rises r.step.rule) b r.entry) needs u path fs
 
 -- the resulting open branches, with the needs u for what is added: of two, the first is marked left and the second waiting; one alone keeps the path
 abbrev pub sides_open : ℕ → Result → List ℕ → Open → Sides → List Open
@@ -124,15 +128,20 @@ abbrev pub taken : List Turning → List ℕ → List Open → Leaving
 taken [] u os = leaving os None
 taken (t ∷ ts) u os = taken_by t.mark t.number u os (taken ts)
 
--- A step of the search: the closing of a branch, with the number of the split whose second side begins with the next step, if there is one; or a rule, with whether each formula that it adds on the first side, and on the second, is new there.
+-- for each of the formulas, whether it is not on the branch yet
+abbrev pub lacking : Branch → List Tree → List Bool
+lacking b [] = []
+lacking b (f ∷ fs) = not (has b f) ∷ lacking b fs
+
+-- A step of the search: the closing of a branch, with the number of the split whose second side begins with the next step, if there is one; or a rule, with whether each formula that it adds on the first side, and on the second, was not on the branch yet.
 pub data Move : Type 0 where
   Shuts : Closing → Option ℕ → Move
   Applied : Result → List Bool → List Bool → Move
 
 -- what is new on the sides
 abbrev pub applied : Result → Branch → Sides → Move
-applied r b (Alone fs) = Applied r (news b fs) []
-applied r b (Both fs gs) = Applied r (news b fs) (news b gs)
+applied r b (Alone fs) = Applied r (lacking b fs) []
+applied r b (Both fs gs) = Applied r (lacking b fs) (lacking b gs)
 
 -- What a turn gives: the branch that no rule fits, or the step and the open branches after it.
 pub data Next : Type 0 where
@@ -189,17 +198,17 @@ moves w n used [] = []
 moves w zero used (o ∷ os) = []
 moves w (suc n) used (o ∷ os) = then_moves (moves w n (suc used)) (turn w (suc used) o os)
 
--- the branch of these formulas, all live
-abbrev pub start_branch : List Tree → Branch
-start_branch fs = add_all [] fs
-
 -- the facts in order and then the goal's Not
 abbrev pub denied : List Tree → Tree → List Tree
 denied facts goal = facts ++ not_ goal ∷ []
 
+-- the branch that the search starts with
+abbrev pub start_branch : List Tree → Tree → Branch
+start_branch facts goal = add_all [] (denied facts goal)
+
 -- the start: one branch, all live and without needs
 abbrev pub start : List Tree → Tree → List Open
-start facts goal = record { branch = start_branch (denied facts goal); needs = with_news [] [] (news [] (denied facts goal)); path = [] } ∷ []
+start facts goal = grown [] [] [] [] (denied facts goal) ∷ []
 
 abbrev mutual
   -- the symbols of the term that are not in the list, each once, before the list

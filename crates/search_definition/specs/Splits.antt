@@ -1,5 +1,5 @@
 -- The ranks settle, split, term split and take up.
-use Rattle.std.specs.Prelude.{ℕ, Bool, true, false, not, Option, Some, None, List, [], ◌∷◌}
+use Rattle.std.specs.Prelude.{Bool, true, false, not, Option, Some, None, List, [], ◌∷◌}
 use Rattle.core_expr.specs.declared.head.Head.TheVariants.{True, False, Not, And, Or, Imp, Iff}
 use Rattle.core_expr.specs.declared.head.Binder.TheVariants.{All, Ex}
 use Rattle.core_expr.specs.Tree.{Tree, not_, and_, or_, imp_, iff_, in_, apply_, if_, all_, ex_, choose_, fun_}

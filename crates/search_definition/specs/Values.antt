@@ -1,5 +1,5 @@
 -- Values of closed formulas on a branch, and what they rest on.
-use Rattle.std.specs.Prelude.{Bool, true, false, Option, Some, None, List, [], ◌∷◌, ◌++◌}
+use Rattle.std.specs.Prelude.{Bool, true, false, List, [], ◌∷◌, ◌++◌}
 use Rattle.core_expr.specs.Tree.{Tree, true_, false_, not_, and_, or_, imp_, iff_, eq_}
 use Rattle.core_expr.specs.Terms.{same}
 use Rattle.seq_calculus.specs.Schemas.{are_apart}
@@ -70,11 +70,11 @@ pub data Whole : Type 0 where
 abbrev pub whole : Branch → Tree → Whole
 whole b f =
     if_so (has b f) Stands (
-      if_so (is_plainly_true f) ByItself (
-        if_so (has_mirror b f) Mirrored (
-          if_so (has b (not_ f)) NotStands (if_so (is_plainly_false f) FalseItself (if_so (has_not_mirror b f) NotMirrored Undecided))
-        )
-      )
+    if_so (is_plainly_true f) ByItself (
+    if_so (has_mirror b f) Mirrored (
+    if_so (has b (not_ f)) NotStands (if_so (is_plainly_false f) FalseItself (if_so (has_not_mirror b f) NotMirrored Undecided))
+    )
+    )
     )
 
 -- the value by a reason, or else the value by the connective

@@ -1,5 +1,5 @@
 -- What the value of a formula looks at, what a formula on the branch can change, and first entries from a position on.
-use Rattle.std.specs.Prelude.{◌≡◌, ◌⊎◌, ℕ, ◌<◌, Bool, true, false, Option, Some, None, List, [], ◌∷◌, ◌++◌, length}
+use Rattle.std.specs.Prelude.{◌≡◌, ◌⊎◌, ℕ, ◌<◌, true, false, Option, Some, None, List, [], ◌∷◌, ◌++◌, length}
 use Rattle.std.proofs.Common.{get_or}
 use Rattle.core_expr.specs.Tree.{Tree, true_, not_, and_, or_, imp_, iff_, eq_}
 use Rattle.search_definition.specs.Branches.{Entry, Branch}

@@ -1,5 +1,5 @@
 //! The laws of the search's definition. The functions do nothing: their contracts are the laws.
-ghost use Rattle.search_definition.specs.Laws.{ValueStays, SettleStays, UsedStays, OldestFrom, OldestFound, OldestNone, PositionStays, PositionKept, PositionUsed, ClosingAdded, ClosingStays, ClosingUsed, FallingContains, FallingWithout, FallingUnion, FallingFirst};
+ghost use Rattle.search_definition.specs.Laws.{ValueStays, SettleStays, UsedStays, OldestFrom, OldestFound, OldestNone, PositionStays, PositionKept, PositionUsed, ClosingAdded, ClosingStays, ClosingUsed, FallingContains, FallingWithout, FallingUnion, FallingFirst, ClosedHasTree, SearchedIsClosed};
 
 /// A formula that is added leaves the value and the grounds of a formula that watches nothing that it touches.
 pub fn value_stays()
@@ -92,4 +92,17 @@ pub fn falling_union()
 #[tactic(auto, using(crate::proofs::Falling::fronts))]
 pub fn falling_first()
     ensures { FallingFirst }
+{}
+
+/// Where the search ends closed, its steps are those of a tree that the search makes of the start branch, in the order of
+/// turns, and the tree has as many turns as were used.
+#[tactic(auto, using(crate::proofs::Treeing::closed_has_tree))]
+pub fn closed_has_tree()
+    ensures { ClosedHasTree }
+{}
+
+/// A tree that the search makes is closed for its branch.
+#[tactic(auto, using(crate::proofs::Treeing::searched_is_closed))]
+pub fn searched_is_closed()
+    ensures { SearchedIsClosed }
 {}
