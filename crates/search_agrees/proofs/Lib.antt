@@ -1,4 +1,1 @@
-mod Shown
-mod New
-mod Old
 mod Rows

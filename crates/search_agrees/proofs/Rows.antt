@@ -8,9 +8,10 @@ use Rattle.search_definition.specs.Branches.{closing}
 use Rattle.search_definition.specs.Values.{truth, grounds}
 use Rattle.search_definition.specs.Instances.{signed_atoms, instance_term, found_term}
 use Rattle.search_definition.specs.Search.{turn, first_rule, apply}
-use Rattle.search_agrees.proofs.Shown.{name, constant, unary, binary}
-use Rattle.search_agrees.proofs.New.{new_full}
-use Rattle.search_agrees.proofs.Old.{old_full}
+use Rattle.search_agrees.specs.Agrees.{UnusedSplitAgrees}
+use Rattle.search_agrees.specs.Shown.{name, constant, unary, binary}
+use Rattle.search_agrees.specs.New.{new_full}
+use Rattle.search_agrees.specs.Old.{old_full}
 
 implication_to_itself : new_full ([]) (imp_ (name 0 0 end) (name 0 0 end)) 100 ≡ old_full 1 ([]) (imp_ (name 0 0 end) (name 0 0 end)) 100
 unfolding new_full old_full turn first_rule apply closing truth grounds signed_atoms instance_term found_term
@@ -59,10 +60,6 @@ two_unused_splits = refl
 cantor_diagonal_is_a_subset : new_full ((in_ (name 0 0 end) (funset_ (name 1 0 end) (power_ (name 1 0 end)))) ∷ []) (in_ (filter_ (name 1 0 end) (not_ (in_ (bound 0) (apply_ (name 0 0 end) (bound 0))))) (power_ (name 1 0 end))) 100 ≡ old_full 2 ((in_ (name 0 0 end) (funset_ (name 1 0 end) (power_ (name 1 0 end)))) ∷ []) (in_ (filter_ (name 1 0 end) (not_ (in_ (bound 0) (apply_ (name 0 0 end) (bound 0))))) (power_ (name 1 0 end))) 100
 unfolding new_full old_full turn first_rule apply closing truth grounds signed_atoms instance_term found_term
 cantor_diagonal_is_a_subset = refl
-
-cantor_diagonal_is_no_value : new_full ((in_ (name 0 0 end) (funset_ (name 1 0 end) (power_ (name 1 0 end)))) ∷ (in_ (filter_ (name 1 0 end) (not_ (in_ (bound 0) (apply_ (name 0 0 end) (bound 0))))) (power_ (name 1 0 end))) ∷ (in_ (name 2 0 end) (name 1 0 end)) ∷ []) (not_ (eq_ (apply_ (name 0 0 end) (name 2 0 end)) (filter_ (name 1 0 end) (not_ (in_ (bound 0) (apply_ (name 0 0 end) (bound 0))))))) 100 ≡ old_full 3 ((in_ (name 0 0 end) (funset_ (name 1 0 end) (power_ (name 1 0 end)))) ∷ (in_ (filter_ (name 1 0 end) (not_ (in_ (bound 0) (apply_ (name 0 0 end) (bound 0))))) (power_ (name 1 0 end))) ∷ (in_ (name 2 0 end) (name 1 0 end)) ∷ []) (not_ (eq_ (apply_ (name 0 0 end) (name 2 0 end)) (filter_ (name 1 0 end) (not_ (in_ (bound 0) (apply_ (name 0 0 end) (bound 0))))))) 100
-unfolding new_full old_full turn first_rule apply closing truth grounds signed_atoms instance_term found_term
-cantor_diagonal_is_no_value = refl
 
 false_among_the_facts : new_full ((false_) ∷ []) (constant 0) 100 ≡ old_full 1 ((false_) ∷ []) (constant 0) 100
 unfolding new_full old_full turn first_rule apply closing truth grounds signed_atoms instance_term found_term
@@ -352,7 +349,6 @@ chosen_term_taken_up : new_full ([]) (imp_ (and_ (name 0 1 (part (choose_ (name 
 unfolding new_full old_full turn first_rule apply closing truth grounds signed_atoms instance_term found_term
 chosen_term_taken_up = refl
 
-boolean_and_enumerations : new_full ([]) (imp_ (and_ (in_ (name 0 0 end) boolean_) (not_ (eq_ (name 0 0 end) true_))) (and_ (eq_ (name 0 0 end) false_) (not_ (eq_ (enum_ (part (num_ 0 1) (part (num_ 0 2) end))) (enum_ (part (num_ 0 1) (part (num_ 0 3) end))))))) 100 ≡ old_full 1 ([]) (imp_ (and_ (in_ (name 0 0 end) boolean_) (not_ (eq_ (name 0 0 end) true_))) (and_ (eq_ (name 0 0 end) false_) (not_ (eq_ (enum_ (part (num_ 0 1) (part (num_ 0 2) end))) (enum_ (part (num_ 0 1) (part (num_ 0 3) end))))))) 100
+pub unused_split_agrees : UnusedSplitAgrees
 unfolding new_full old_full turn first_rule apply closing truth grounds signed_atoms instance_term found_term
-boolean_and_enumerations = refl
-
+unused_split_agrees = refl

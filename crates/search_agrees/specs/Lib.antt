@@ -1,1 +1,4 @@
-
+pub mod Shown
+pub mod New
+pub mod Old
+pub mod Agrees

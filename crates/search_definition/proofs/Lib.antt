@@ -10,3 +10,4 @@ mod Falling
 mod Needing
 mod Uses
 mod Treeing
+mod Rooms

@@ -1,12 +1,17 @@
 -- What is proved of the search's definition. Each statement is the contract of a function of src/laws.rt.
-use Rattle.std.specs.Prelude.{◌≡◌, ℕ, suc, ◌<◌, ◌≤◌, ◌||◌, Bool, true, false, nat_eq, Option, Some, None, List, [], ◌∷◌, length, drop}
+use Rattle.std.specs.Prelude.{◌≡◌, ℕ, suc, ◌*◌, ◌<◌, ◌≤◌, ◌||◌, Bool, true, false, nat_eq, Option, Some, None, List, [], ◌∷◌, length, drop}
+use Rattle.core_expr.specs.declared.head.Sym.{Sym}
 use Rattle.core_expr.specs.Tree.{Tree}
+use Rattle.core_expr.specs.Tree.Tree.{app}
+use Rattle.core_expr.specs.Tree.Parts.{end}
+use Rattle.core_expr.specs.Put.{inst}
+use Rattle.core_expr.specs.Terms.{nodes}
 use Rattle.search_definition.specs.Branches.{Branch, Closing, closing, closes_with, formulas, has, add, used}
 use Rattle.search_definition.specs.Values.{truth, grounds}
 use Rattle.search_definition.specs.Rules.{Step, oldest}
 use Rattle.search_definition.specs.Splits.{settle}
 use Rattle.search_definition.specs.Needs.{contains, union, without}
-use Rattle.search_definition.specs.Instances.{Fresh}
+use Rattle.search_definition.specs.Instances.{Fresh, Universal, atoms, signed_atoms}
 use Rattle.search_definition.specs.Search.{search, steps, fresh, start_branch}
 use Rattle.search_definition.specs.Search.End.{Closed}
 use Rattle.search_definition.specs.Trees.{Turns, IsClosedFor, IsSearched, turns, steps_of}
@@ -94,3 +99,7 @@ ClosedHasTree =
 -- a tree that the search makes is closed for its branch
 abbrev pub SearchedIsClosed : Type 0
 SearchedIsClosed = (w : Fresh) (b : Branch) (t : Turns) → IsSearched w b t → IsClosedFor w b t
+
+-- with room for four steps for each node of the body or more, the atoms of a universal are its signed atoms
+abbrev pub AtomsHaveRoom : Type 0
+AtomsHaveRoom = (name : ℕ → Sym) (room : ℕ) (u : Universal) → 4 * nodes u.body ≤ room → atoms name room 1 u.holds (inst u.body (app (name 0) end)) ≡ signed_atoms name u

@@ -1,5 +1,5 @@
 //! The laws of the search's definition. The functions do nothing: their contracts are the laws.
-ghost use Rattle.search_definition.specs.Laws.{ValueStays, SettleStays, UsedStays, OldestFrom, OldestFound, OldestNone, PositionStays, PositionKept, PositionUsed, ClosingAdded, ClosingStays, ClosingUsed, FallingContains, FallingWithout, FallingUnion, FallingFirst, ClosedHasTree, SearchedIsClosed};
+ghost use Rattle.search_definition.specs.Laws.{ValueStays, SettleStays, UsedStays, OldestFrom, OldestFound, OldestNone, PositionStays, PositionKept, PositionUsed, ClosingAdded, ClosingStays, ClosingUsed, FallingContains, FallingWithout, FallingUnion, FallingFirst, ClosedHasTree, SearchedIsClosed, AtomsHaveRoom};
 
 /// A formula that is added leaves the value and the grounds of a formula that watches nothing that it touches.
 pub fn value_stays()
@@ -105,4 +105,10 @@ pub fn closed_has_tree()
 #[tactic(auto, using(crate::proofs::Treeing::searched_is_closed))]
 pub fn searched_is_closed()
     ensures { SearchedIsClosed }
+{}
+
+/// Room for four steps for each node of a universal's body is enough to find its signed atoms.
+#[tactic(auto, using(crate::proofs::Rooms::atoms_have_room))]
+pub fn atoms_have_room()
+    ensures { AtomsHaveRoom }
 {}

@@ -6,8 +6,9 @@ mod laws;
 mod rule;
 
 pub use laws::{
-    closed_has_tree, closing_added, closing_stays, closing_used, falling_contains, falling_first,
-    falling_union, falling_without, oldest_found, oldest_from, oldest_none, position_kept,
-    position_stays, position_used, searched_is_closed, settle_stays, used_stays, value_stays,
+    atoms_have_room, closed_has_tree, closing_added, closing_stays, closing_used, falling_contains,
+    falling_first, falling_union, falling_without, oldest_found, oldest_from, oldest_none,
+    position_kept, position_stays, position_used, searched_is_closed, settle_stays, used_stays,
+    value_stays,
 };
 pub use rule::{Clash, Rank, Rule};

@@ -8,7 +8,7 @@ use Rattle.search_definition.specs.Instances.{Fresh}
 use Rattle.search_definition.specs.Search.{Open, Move, Next, turn, fresh, start}
 use Rattle.search_definition.specs.Search.Next.{Stuck, Goes}
 use Rattle.search_definition.specs.Search.Move.{Shuts, Applied}
-use Rattle.search_agrees.proofs.Shown.{Seen, Shown, ended}
+use Rattle.search_agrees.specs.Shown.{Seen, Shown, ended}
 
 abbrev new_seen : Branch → List (List ℕ) → List Seen
 new_seen [] needs = []
@@ -39,4 +39,3 @@ new_turns w (suc n) used (o ∷ os) = new_after (new_turns w n (suc used)) (turn
 
 unfoldable pub new_full : List Tree → Tree → ℕ → List Shown
 new_full facts goal n = new_turns (fresh facts goal) n 0 (start facts goal)
-

@@ -6,7 +6,7 @@ use Rattle.tableau_definition.specs.Branches.{Branch, Closing, closing}
 use Rattle.tableau_definition.specs.Ranks.{Side, Result}
 use Rattle.tableau_definition.specs.Search.{Open, Next, turn, first_rule, start, spare}
 use Rattle.tableau_definition.specs.Search.Next.{Stuck, Goes}
-use Rattle.search_agrees.proofs.Shown.{Seen, Shown, ended}
+use Rattle.search_agrees.specs.Shown.{Seen, Shown, ended}
 
 -- the set as a falling list
 abbrev falling : List ℕ → List ℕ

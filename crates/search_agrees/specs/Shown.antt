@@ -35,4 +35,3 @@ pub record Shown : Type 0 where
 
 abbrev pub ended : ℕ → List Shown
 ended n = record { turn = n; entry = 0; named = []; added = []; opens = [] } ∷ []
-
