@@ -3,11 +3,14 @@ mod Worked
 mod WorkedCantor
 mod WorkedCases
 mod WorkedSets
-mod Positions
-mod Closings
-mod Watching
-mod Falling
-mod Needing
-mod Uses
-mod Treeing
+pub mod Positions
+pub mod Closings
+pub mod Watching
+pub mod Falling
+pub mod Needing
+pub mod Uses
+pub mod Treeing
 mod Rooms
+pub mod Lefts
+pub mod Standing
+pub mod Telling

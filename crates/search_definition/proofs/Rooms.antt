@@ -1,5 +1,5 @@
 -- The room that the signed atoms take: four for each node are enough.
-use Rattle.std.specs.Prelude.{◌≡◌, ℕ, zero, suc, ◌+◌, ◌*◌, ◌-◌, ◌≤◌, ◌<◌, Bool, true, false, not, cond, nat_lt, nat_eq, Option, Some, None, List, [], ◌∷◌, ◌++◌, length}
+use Rattle.std.specs.Prelude.{◌≡◌, ℕ, zero, suc, ◌+◌, ◌*◌, ◌-◌, ◌≤◌, ◌<◌, Bool, true, false, not, cond, nat_lt, nat_eq, Some, None, List, [], ◌∷◌, ◌++◌, length}
 use Rattle.std.proofs.Common.{refl, ap, sym, ◌∙◌, arith, subst}
 use Rattle.core_expr.specs.declared.head.Sym.{Sym}
 use Rattle.core_expr.specs.declared.head.Head.TheVariants.{Eq, In}
@@ -10,7 +10,7 @@ use Rattle.core_expr.specs.Put.{inst, put, puts, shift, shifts, argument}
 use Rattle.core_expr.specs.Terms.{nodes, nodes_of}
 use Rattle.seq_calculus.specs.Schemas.{join, join_from, equals_each}
 use Rattle.search_definition.specs.Terms.{if_so, list_of}
-use Rattle.search_definition.specs.Instances.{Universal, Signed, has_no_parts, atoms, atom_or, where_universal, mapped, signed_atoms}
+use Rattle.search_definition.specs.Instances.{Signed, has_no_parts, atoms, atom_or, where_universal, mapped, signed_atoms}
 use Rattle.search_definition.specs.Laws.{AtomsHaveRoom}
 
 -- sizes

@@ -1,21 +1,26 @@
 -- What is proved of the search's definition. Each statement is the contract of a function of src/laws.rt.
 use Rattle.std.specs.Prelude.{◌≡◌, ℕ, suc, ◌*◌, ◌<◌, ◌≤◌, ◌||◌, Bool, true, false, nat_eq, Option, Some, None, List, [], ◌∷◌, length, drop}
 use Rattle.core_expr.specs.declared.head.Sym.{Sym}
-use Rattle.core_expr.specs.Tree.{Tree}
+use Rattle.core_expr.specs.Tree.{Tree, iff_, in_}
 use Rattle.core_expr.specs.Tree.Tree.{app}
 use Rattle.core_expr.specs.Tree.Parts.{end}
 use Rattle.core_expr.specs.Put.{inst}
 use Rattle.core_expr.specs.Terms.{nodes}
+use Rattle.seq_calculus.specs.Calculus.{HasAll, IsClosed, AllClosed}
+use Rattle.seq_calculus.specs.Schemas.{instance_of}
+use Rattle.search_definition.specs.declared.rule.Rank.{Rank}
+use Rattle.search_definition.specs.Plain.{Left, member, left_side}
+use Rattle.search_definition.specs.Equations.{right_or, members}
 use Rattle.search_definition.specs.Branches.{Branch, Closing, closing, closes_with, formulas, has, add, used}
 use Rattle.search_definition.specs.Values.{truth, grounds}
-use Rattle.search_definition.specs.Rules.{Step, oldest}
+use Rattle.search_definition.specs.Rules.{Step, Result, oldest, rank_of}
 use Rattle.search_definition.specs.Splits.{settle}
 use Rattle.search_definition.specs.Needs.{contains, union, without}
 use Rattle.search_definition.specs.Instances.{Fresh, Universal, atoms, signed_atoms}
-use Rattle.search_definition.specs.Search.{search, steps, fresh, start_branch}
+use Rattle.search_definition.specs.Search.{by_rank, side_branch, search, steps, fresh, start_branch}
 use Rattle.search_definition.specs.Search.End.{Closed}
 use Rattle.search_definition.specs.Trees.{Turns, IsClosedFor, IsSearched, turns, steps_of}
-use Rattle.search_definition.specs.Watches.{watch, watched, touches, Apart, entry_at, NoneBefore, FallsFrom}
+use Rattle.search_definition.specs.Watches.{watch, watched, touches, Apart, entry_at, NoneBefore, FallsFrom, LiveAt, ClosedSides}
 
 -- a formula that is added leaves the value and the grounds of a formula that watches nothing that it touches
 abbrev pub ValueStays : Type 0
@@ -103,3 +108,25 @@ SearchedIsClosed = (w : Fresh) (b : Branch) (t : Turns) → IsSearched w b t →
 -- with room for four steps for each node of the body or more, the atoms of a universal are its signed atoms
 abbrev pub AtomsHaveRoom : Type 0
 AtomsHaveRoom = (name : ℕ → Sym) (room : ℕ) (u : Universal) → 4 * nodes u.body ≤ room → atoms name room 1 u.holds (inst u.body (app (name 0) end)) ≡ signed_atoms name u
+
+-- a left side with its right side is the schema's instance for its parameters
+abbrev pub LeftIsInstance : Type 0
+LeftIsInstance = (f : Tree) (l : Left) → left_side f ≡ Some l → instance_of l.schema l.z l.params ≡ Some (iff_ f l.right)
+
+-- "is a member of x", put at c, is the right side of the schema for c \in x where there is one, else c \in x
+abbrev pub MembersAt : Type 0
+MembersAt = (x c : Tree) → IsClosed x → IsClosed c → inst (members x) c ≡ right_or (in_ c x) (member c x)
+
+-- the oldest entry that the rule fits is live, and the step is the rule's at its formula
+abbrev pub OldestIs : Type 0
+OldestIs = (rule : Tree → Option Step) (b : Branch) (r : Result) → oldest rule 0 b ≡ Some r → (f : Tree) × LiveAt b r.entry f × (rule f ≡ Some r.step)
+
+-- what the rule of a rank gives is a rule of that rank; it names first the formula of its entry, which is live; all that it names stands on the branch, and what it adds is closed
+abbrev pub RuleTells : Type 0
+RuleTells =
+    (w : Fresh) (b : Branch) (k : Rank) (r : Result) → AllClosed (formulas b) → by_rank w b k ≡ Some r
+    → (f : Tree) × (more : List Tree) × (r.step.named ≡ f ∷ more) × LiveAt b r.entry f × (rank_of r.step.rule ≡ k) × HasAll (formulas b) r.step.named × ClosedSides r.step.sides
+
+-- an open branch of closed formulas gives open branches of closed formulas
+abbrev pub SidesStayClosed : Type 0
+SidesStayClosed = (stay : Bool) (b : Branch) (r : Result) (fs : List Tree) → AllClosed (formulas b) → AllClosed fs → AllClosed (formulas (side_branch stay r b fs))

@@ -1,9 +1,11 @@
 -- What the value of a formula looks at, what a formula on the branch can change, and first entries from a position on.
-use Rattle.std.specs.Prelude.{◌≡◌, ◌⊎◌, ℕ, ◌<◌, true, false, Option, Some, None, List, [], ◌∷◌, ◌++◌, length}
+use Rattle.std.specs.Prelude.{◌≡◌, ◌⊎◌, ℕ, zero, suc, ◌<◌, true, false, Option, Some, None, List, [], ◌∷◌, ◌++◌, length}
 use Rattle.std.proofs.Common.{get_or}
 use Rattle.core_expr.specs.Tree.{Tree, true_, not_, and_, or_, imp_, iff_, eq_}
 use Rattle.search_definition.specs.Branches.{Entry, Branch}
-use Rattle.search_definition.specs.Rules.{Step}
+use Rattle.seq_calculus.specs.Calculus.{AllClosed}
+use Rattle.search_definition.specs.Rules.{Sides, Step}
+use Rattle.search_definition.specs.Rules.Sides.{Alone, Both}
 use Rattle.search_definition.specs.Splits.{Splitting, splitting}
 
 -- the formulas below f through connectives, f itself included
@@ -58,3 +60,14 @@ NoneBefore rule k b = (i : ℕ) → i < k → i < length b → (entry_at b i).li
 abbrev pub FallsFrom : ℕ → List ℕ → Type 0
 FallsFrom n [] = Unit {0}
 FallsFrom n (m ∷ ms) = (m < n) × FallsFrom m ms
+
+-- the entry with the index i is live and of f
+abbrev pub LiveAt : Branch → ℕ → Tree → Type 0
+LiveAt [] i f = ⊥
+LiveAt (e ∷ b) zero f = (e.live ≡ true) × (e.formula ≡ f)
+LiveAt (e ∷ b) (suc i) f = LiveAt b i f
+
+-- what is added is closed
+abbrev pub ClosedSides : Sides → Type 0
+ClosedSides (Alone fs) = AllClosed fs
+ClosedSides (Both fs gs) = AllClosed fs × AllClosed gs

@@ -1,5 +1,5 @@
 //! The laws of the search's definition. The functions do nothing: their contracts are the laws.
-ghost use Rattle.search_definition.specs.Laws.{ValueStays, SettleStays, UsedStays, OldestFrom, OldestFound, OldestNone, PositionStays, PositionKept, PositionUsed, ClosingAdded, ClosingStays, ClosingUsed, FallingContains, FallingWithout, FallingUnion, FallingFirst, ClosedHasTree, SearchedIsClosed, AtomsHaveRoom};
+ghost use Rattle.search_definition.specs.Laws.{ValueStays, SettleStays, UsedStays, OldestFrom, OldestFound, OldestNone, PositionStays, PositionKept, PositionUsed, ClosingAdded, ClosingStays, ClosingUsed, FallingContains, FallingWithout, FallingUnion, FallingFirst, ClosedHasTree, SearchedIsClosed, AtomsHaveRoom, LeftIsInstance, MembersAt, OldestIs, RuleTells, SidesStayClosed};
 
 /// A formula that is added leaves the value and the grounds of a formula that watches nothing that it touches.
 pub fn value_stays()
@@ -111,4 +111,35 @@ pub fn searched_is_closed()
 #[tactic(auto, using(crate::proofs::Rooms::atoms_have_room))]
 pub fn atoms_have_room()
     ensures { AtomsHaveRoom }
+{}
+
+/// A left side with its right side is the instance of its schema.
+#[tactic(auto, using(crate::proofs::Lefts::left_is_instance))]
+pub fn left_is_instance()
+    ensures { LeftIsInstance }
+{}
+
+/// What it is to be a member of a set, put at a term, is what its schema says of that term.
+#[tactic(auto, using(crate::proofs::Lefts::members_at))]
+pub fn members_at()
+    ensures { MembersAt }
+{}
+
+/// The oldest entry that a rule fits is live, and the step is what the rule gives at its formula.
+#[tactic(auto, using(crate::proofs::Standing::oldest_is))]
+pub fn oldest_is()
+    ensures { OldestIs }
+{}
+
+/// What the rule of a rank gives is of that rank. It names its live entry first, names formulas on the branch alone, and adds
+/// closed formulas.
+#[tactic(auto, using(crate::proofs::Telling::rule_tells))]
+pub fn rule_tells()
+    ensures { RuleTells }
+{}
+
+/// A branch of closed formulas gives branches of closed formulas.
+#[tactic(auto, using(crate::proofs::Standing::sides_stay_closed))]
+pub fn sides_stay_closed()
+    ensures { SidesStayClosed }
 {}

@@ -1,5 +1,5 @@
-mod Substituted
-mod Differs
-mod Rounds
+pub mod Substituted
+pub mod Differs
+pub mod Rounds
 mod Contracts
 mod Worked
