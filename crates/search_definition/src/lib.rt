@@ -1,7 +1,15 @@
-//! The written search, as a definition: branches, closings, values, the twelve ranks of rules, turns with dropping and the
-//! list of its steps, in the form in which fast code is shown to be equal to it. `docs/SEARCH.md` says it in words.
+//! The written search, second edition, as a definition: branches, closings, values, the twelve ranks of rules, turns with
+//! dropping and the list of steps, in the form in which fast code is shown to be equal to it. `docs/SEARCH.md` says it in
+//! words.
+//!
+//! To the layers above this crate promises, of what `specs/` defines: the steps of a search that ends closed are those of
+//! a closed tree of its start branch; a rule names its live entry first, names formulas on the branch alone, and adds
+//! closed formulas; what stays when a formula is added or an entry is used; and how first entries are kept by positions.
+//! The laws are the contracts of functions that do nothing. The enums [`Rank`], [`Rule`] and [`Clash`] stand in the
+//! definitions and in code alike, with their numbers.
 #![tactic(auto)]
 
+mod codes;
 mod laws;
 mod rule;
 

@@ -68,9 +68,6 @@ closed-answers (b ∷ bs) h g = go (same_sym b.name g) (closed-answers bs h.1 g)
     go false k = k
 
 -- the test of a term that is to be bound
-both_tests : Bool → Bool → Bool
-both_tests x y = either x (either y false true) false
-
 tested : (x y : Bool) → either x (either y false true) false ≡ true → (x ≡ true) × (y ≡ false)
 tested true true h = absurd (true_not_false (sym h))
 tested true false h = (refl, refl)

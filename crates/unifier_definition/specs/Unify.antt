@@ -31,10 +31,6 @@ met ms s t d = met_by (meta_of ms s) (meta_of ms t) s t d
 abbrev pub then : Difference → Difference → Difference
 then d e = elim d [ Same ↦ e | Clash ↦ Clash | Bind m u ↦ Bind m u ]
 
--- d, where the test holds
-abbrev pub where_same : Bool → Difference → Difference
-where_same x d = elim x [ true ↦ d | false ↦ Clash ]
-
 abbrev mutual
   -- the first difference of two terms: heads and numbers, then the parts from the left, a body last
   pub difference : List Sym → Tree → Tree → Difference
