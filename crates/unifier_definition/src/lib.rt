@@ -6,6 +6,7 @@
 //! Its functions do nothing. Each is there for its contract, which is a law of the definitions.
 #![tactic(auto)]
 
+ghost use Rattle.unifier_definition.specs.Walk.{DifferenceByParts};
 ghost use Rattle.unifier_definition.specs.Laws.{AnswerUnifies, AnswerIsGeneral, AnswerIsApplied, AnswerIsListed, NoneMeansNone, UnifierHasRoom, SameIsEqual};
 
 /// What the unifier answers is a unifier: closed terms that make both terms equal.
@@ -48,4 +49,10 @@ pub fn unifier_has_room()
 #[tactic(auto, using(crate::proofs::Contracts::same_is_equal))]
 pub fn same_is_equal()
     ensures { SameIsEqual }
+{}
+
+/// Two nodes of one kind with the same numbers differ first where their parts do.
+#[tactic(auto, using(crate::proofs::Walked::difference_by_parts))]
+pub fn difference_by_parts()
+    ensures { DifferenceByParts }
 {}
