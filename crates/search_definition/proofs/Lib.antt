@@ -14,3 +14,4 @@ mod Rooms
 pub mod Lefts
 pub mod Standing
 pub mod Telling
+mod Used

@@ -46,7 +46,7 @@ fine b f r more terms fs h c = record { more = more; names = refl; ranked = refl
 fine-both : (b : Branch) (f : Tree) (r : Rule) (terms fs gs : List Tree) → AllClosed fs → AllClosed gs → Holds (Fine b f (rank_of r)) (splits r (f ∷ []) terms fs gs)
 fine-both b f r terms fs gs c d = record { more = []; names = refl; ranked = refl; standing = tt; closed = (c, d) }
 
-if-fine : {B : Type 0} (P : B → Type 0) (x : Bool) (y : B) → P y → Holds P (when x y)
+pub if-fine : {B : Type 0} (P : B → Type 0) (x : Bool) (y : B) → P y → Holds P (when x y)
 if-fine P true y h = h
 if-fine P false y h = tt
 

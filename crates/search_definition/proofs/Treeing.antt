@@ -295,7 +295,7 @@ first-answer w b r (k ∷ ks) h = go (by_rank w b k) refl (first-answer w b r ks
     go (Some s) e ih h = (k, e ∙ h)
     go None e ih h = ih h
 
-first-applies : (w : Fresh) (b : Branch) (r : Result) → first_rule w b ≡ Some r → Applies w b r
+pub first-applies : (w : Fresh) (b : Branch) (r : Result) → first_rule w b ≡ Some r → Applies w b r
 unfolding first_rule
 first-applies w b r h = first-answer w b r ranks h
 

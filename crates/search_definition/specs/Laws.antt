@@ -1,5 +1,5 @@
 -- What is proved of the search's definition. Each statement is the contract of a function of src/laws.rt.
-use Rattle.std.specs.Prelude.{◌≡◌, ℕ, suc, ◌*◌, ◌<◌, ◌≤◌, ◌||◌, Bool, true, false, nat_eq, Option, Some, None, List, [], ◌∷◌, length, drop}
+use Rattle.std.specs.Prelude.{◌≡◌, ℕ, suc, ◌*◌, ◌<◌, ◌≤◌, ◌||◌, Bool, true, false, nat_eq, Option, Some, None, List, [], ◌∷◌, length, drop, ◌↔◌}
 use Rattle.core_expr.specs.declared.head.Sym.{Sym}
 use Rattle.core_expr.specs.Tree.{Tree, iff_, in_}
 use Rattle.core_expr.specs.Tree.Tree.{app}
@@ -17,9 +17,9 @@ use Rattle.search_definition.specs.Rules.{Step, Result, oldest, rank_of}
 use Rattle.search_definition.specs.Splits.{settle}
 use Rattle.search_definition.specs.Needs.{contains, union, without}
 use Rattle.search_definition.specs.Instances.{Fresh, Universal, atoms, signed_atoms}
-use Rattle.search_definition.specs.Search.{by_rank, side_branch, search, steps, fresh, start_branch}
+use Rattle.search_definition.specs.Search.{by_rank, first_rule, Applies, side_branch, search, steps, fresh, start_branch}
 use Rattle.search_definition.specs.Search.End.{Closed}
-use Rattle.search_definition.specs.Trees.{Turns, IsClosedFor, IsSearched, turns, steps_of}
+use Rattle.search_definition.specs.Trees.{Turns, used_by, IsClosedFor, IsSearched, turns, steps_of}
 use Rattle.search_definition.specs.Watches.{watch, watched, touches, Apart, entry_at, NoneBefore, FallsFrom, LiveAt, ClosedSides}
 
 -- a formula that is added leaves the value and the grounds of a formula that watches nothing that it touches
@@ -130,3 +130,11 @@ RuleTells =
 -- an open branch of closed formulas gives open branches of closed formulas
 abbrev pub SidesStayClosed : Type 0
 SidesStayClosed = (stay : Bool) (b : Branch) (r : Result) (fs : List Tree) → AllClosed (formulas b) → AllClosed fs → AllClosed (formulas (side_branch stay r b fs))
+
+-- what a closed tree uses stands on its branch
+abbrev pub UsedStands : Type 0
+UsedStands = (w : Fresh) (b : Branch) (t : Turns) → AllClosed (formulas b) → IsClosedFor w b t → HasAll (formulas b) (used_by b t)
+
+-- the first rule applies, and there is none exactly where no rule applies
+abbrev pub FirstIsByRank : Type 0
+FirstIsByRank = (w : Fresh) (b : Branch) → ((r : Result) → first_rule w b ≡ Some r → Applies w b r) × ((first_rule w b ≡ None) ↔ ((r : Result) → Applies w b r → ⊥))

@@ -1,5 +1,5 @@
 //! The laws of the search's definition. The functions do nothing: their contracts are the laws.
-ghost use Rattle.search_definition.specs.Laws.{ValueStays, SettleStays, UsedStays, OldestFrom, OldestFound, OldestNone, PositionStays, PositionKept, PositionUsed, ClosingAdded, ClosingStays, ClosingUsed, FallingContains, FallingWithout, FallingUnion, FallingFirst, ClosedHasTree, SearchedIsClosed, AtomsHaveRoom, LeftIsInstance, MembersAt, OldestIs, RuleTells, SidesStayClosed};
+ghost use Rattle.search_definition.specs.Laws.{ValueStays, SettleStays, UsedStays, OldestFrom, OldestFound, OldestNone, PositionStays, PositionKept, PositionUsed, ClosingAdded, ClosingStays, ClosingUsed, FallingContains, FallingWithout, FallingUnion, FallingFirst, ClosedHasTree, SearchedIsClosed, AtomsHaveRoom, LeftIsInstance, MembersAt, OldestIs, RuleTells, SidesStayClosed, UsedStands, FirstIsByRank};
 
 /// A formula that is added leaves the value and the grounds of a formula that watches nothing that it touches.
 pub fn value_stays()
@@ -142,4 +142,15 @@ pub fn rule_tells()
 #[tactic(auto, using(crate::proofs::Standing::sides_stay_closed))]
 pub fn sides_stay_closed()
     ensures { SidesStayClosed }
+{}
+
+/// What a closed tree uses stands on its branch.
+#[tactic(auto, using(crate::proofs::Used::used_stands))]
+pub fn used_stands()
+    ensures { UsedStands }
+{}
+
+/// The first rule applies, and there is none exactly where no rule applies.
+pub fn first_is_by_rank()
+    ensures { FirstIsByRank }
 {}

@@ -15,8 +15,9 @@ mod rule;
 
 pub use laws::{
     atoms_have_room, closed_has_tree, closing_added, closing_stays, closing_used, falling_contains,
-    falling_first, falling_union, falling_without, left_is_instance, members_at, oldest_found,
-    oldest_from, oldest_is, oldest_none, position_kept, position_stays, position_used, rule_tells,
-    searched_is_closed, settle_stays, sides_stay_closed, used_stays, value_stays,
+    falling_first, falling_union, falling_without, first_is_by_rank, left_is_instance, members_at,
+    oldest_found, oldest_from, oldest_is, oldest_none, position_kept, position_stays,
+    position_used, rule_tells, searched_is_closed, settle_stays, sides_stay_closed, used_stands,
+    used_stays, value_stays,
 };
 pub use rule::{Clash, Rank, Rule};
