@@ -1,0 +1,13 @@
+pub mod Terms
+pub mod Branches
+pub mod Values
+pub mod Rules
+pub mod Plain
+pub mod Equations
+pub mod Splits
+pub mod Instances
+pub mod Needs
+pub mod Search
+pub mod Trees
+pub mod Watches
+pub mod Laws

@@ -1,0 +1,4 @@
+pub mod Metas
+pub mod Unify
+pub mod Walk
+pub mod Laws
