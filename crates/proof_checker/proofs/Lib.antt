@@ -1,0 +1,10 @@
+pub mod LatestLaws
+pub mod SideLaws
+pub mod PlanLaws
+pub mod ProofLaws
+pub mod RunLaws
+pub mod PatternLaws
+pub mod TurnLaws
+pub mod RuleLaws
+pub mod NodeLaws
+pub mod CheckLaws
