@@ -8,3 +8,6 @@ pub mod TurnLaws
 pub mod RuleLaws
 pub mod NodeLaws
 pub mod CheckLaws
+pub mod TupleLaws
+pub mod InstanceLaws
+pub mod BuildLaws

@@ -1,12 +1,15 @@
 -- The patterns are the schemas.
-use Rattle.std.proofs.Common.{◌≡◌, ℕ, zero, suc, ◌+◌, ◌-◌, ◌<◌, ◌≤◌, Option, Some, None, List, [], ◌∷◌, length, get_or, map, take, drop, refl, ap, sym, ◌∙◌, arith, subst}
+use Rattle.std.proofs.Common.{◌≡◌, ℕ, zero, suc, ◌+◌, ◌-◌, ◌<◌, ◌≤◌, Bool, true, nat_eq, Option, Some, None, List, [], ◌∷◌, length, get_or, map, take, drop, refl, ap, sym, ◌∙◌, arith, subst}
+use Rattle.std.proofs.lemmas.Bool.{agree_below_at}
+use Rattle.std.proofs.lemmas.Bool.Decides.{nat_tests}
 use Rattle.std.proofs.lemmas.List.{get_or-map, get_or-take, get_or-drop}
 use Rattle.core_expr.specs.Tree.{Tree, eq_, in_, and_, imp_, iff_, if_, apply_, all_, ex_, fun_, dom_, funset_, union_, image_, except_, subseteq_}
 use Rattle.core_expr.specs.Tree.Tree.{bound}
 use Rattle.core_expr.specs.Put.{IsScoped, shift}
+use Rattle.core_expr.specs.Heads.{kind_at, kind_table}
 use Rattle.core_expr.proofs.Laws.{shift_closed}
 use Rattle.seq_calculus.specs.Schemas.{Row, no_row, rows, row_at, instance_of, unnumbered, of_one, of_two, of_three, of_four, about_boolean, about_choice, about_power, about_union, about_subset, about_extensionality, about_domain, about_cup, about_cap, about_difference, about_filter, about_image, about_then, about_otherwise, about_application, about_function_set, about_except, about_functions}
-use Rattle.proof_checker.specs.Schemas.{Pattern, no_pattern, patterns, IsOpen, subject_in, formula_in, IsProper, HasPattern, IsInstance}
+use Rattle.proof_checker.specs.Schemas.{Pattern, pattern_at, IsOpen, subject_in, formula_in, IsProper, HasPattern, IsInstance}
 
 -- the schemas that have patterns, by how many parameters they have
 data OfOne : Type 0 where
@@ -56,28 +59,25 @@ row_of (Two s) = unnumbered (of_two (formula_of_two s))
 row_of (Three s) = unnumbered (of_three (formula_of_three s))
 row_of FunctionEquality = unnumbered (of_four about_functions)
 
-abbrev at : ℕ → Pattern
-at i = get_or patterns i no_pattern
-
 abbrev pattern_of : Schema → Pattern
-pattern_of (Three Cup) = at 0
-pattern_of (Three Cap) = at 1
-pattern_of (Three Difference) = at 2
-pattern_of (Two Power) = at 3
-pattern_of (Two Union) = at 4
-pattern_of (Three Filter) = at 5
-pattern_of (Three Image) = at 6
-pattern_of (One Boolean) = at 7
-pattern_of (Two Subset) = at 8
-pattern_of (Two Extensionality) = at 9
-pattern_of (One Choice) = at 10
-pattern_of (Three Then) = at 11
-pattern_of (Three Otherwise) = at 12
-pattern_of (Two Domain) = at 13
-pattern_of (Three Application) = at 14
-pattern_of FunctionEquality = at 15
-pattern_of (Three FunctionSet) = at 16
-pattern_of (Three Except) = at 17
+pattern_of (Three Cup) = pattern_at 0
+pattern_of (Three Cap) = pattern_at 1
+pattern_of (Three Difference) = pattern_at 2
+pattern_of (Two Power) = pattern_at 3
+pattern_of (Two Union) = pattern_at 4
+pattern_of (Three Filter) = pattern_at 5
+pattern_of (Three Image) = pattern_at 6
+pattern_of (One Boolean) = pattern_at 7
+pattern_of (Two Subset) = pattern_at 8
+pattern_of (Two Extensionality) = pattern_at 9
+pattern_of (One Choice) = pattern_at 10
+pattern_of (Three Then) = pattern_at 11
+pattern_of (Three Otherwise) = pattern_at 12
+pattern_of (Two Domain) = pattern_at 13
+pattern_of (Three Application) = pattern_at 14
+pattern_of FunctionEquality = pattern_at 15
+pattern_of (Three FunctionSet) = pattern_at 16
+pattern_of (Three Except) = pattern_at 17
 
 abbrev Moved : Tree → Type 0
 Moved e = shift 0 1 e ≡ e
@@ -87,10 +87,12 @@ moved e h = shift_closed 0 0 1 e (omega arith) h
 
 -- a formula is that of its pattern
 one_to : (s : OfOne) (a : Tree) → IsScoped 0 (subject_in (pattern_of (One s)) (a ∷ [])) → formula_of_one s a ≡ formula_in (pattern_of (One s)) (a ∷ [])
+unfolding kind_at kind_table
 one_to Boolean a h = refl
 one_to Choice a h = refl
 
 two_to : (s : OfTwo) (a b : Tree) → IsScoped 0 (subject_in (pattern_of (Two s)) (a ∷ b ∷ [])) → formula_of_two s a b ≡ formula_in (pattern_of (Two s)) (a ∷ b ∷ [])
+unfolding kind_at kind_table
 two_to Power t a h = refl
 two_to Union t a h = let x : Moved t = moved t h.0 in let y : Moved a = moved a h.1.0.0 in λ i. iff_ (in_ t (union_ a)) (ex_ (and_ (in_ (bound 0) (y i)) (in_ (x i) (bound 0))))
 two_to Subset a b h = let x : Moved a = moved a h.0 in let y : Moved b = moved b h.1.0 in λ i. iff_ (subseteq_ a b) (all_ (imp_ (in_ (bound 0) (x i)) (in_ (bound 0) (y i))))
@@ -98,6 +100,7 @@ two_to Extensionality a b h = let x : Moved a = moved a h.0 in let y : Moved b =
 two_to Domain s e h = refl
 
 three_to : (s : OfThree) (a b c : Tree) → IsScoped 0 (subject_in (pattern_of (Three s)) (a ∷ b ∷ c ∷ [])) → formula_of_three s a b c ≡ formula_in (pattern_of (Three s)) (a ∷ b ∷ c ∷ [])
+unfolding kind_at kind_table
 three_to Cup a b c h = refl
 three_to Cap a b c h = refl
 three_to Difference a b c h = refl
@@ -118,14 +121,17 @@ three_to Except f a b h =
     λ i. eq_ (except_ f a b) (fun_ (dom_ f) (if_ (eq_ (bound 0) (y i)) (z i) (apply_ (x i) (bound 0))))
 
 functions_to : (s d t e : Tree) → IsScoped 0 (subject_in (pattern_of FunctionEquality) (s ∷ d ∷ t ∷ e ∷ [])) → about_functions s d t e ≡ formula_in (pattern_of FunctionEquality) (s ∷ d ∷ t ∷ e ∷ [])
+unfolding kind_at kind_table
 functions_to s d t e h = let x : Moved s = moved s h.0.0.0 in λ i. iff_ (eq_ (fun_ s d) (fun_ t e)) (and_ (eq_ s t) (all_ (imp_ (in_ (bound 0) (x i)) (eq_ d e))))
 
 -- where a formula is closed, its parameters have no other variables than they may have
 one_from : (s : OfOne) (a : Tree) → IsScoped 0 (formula_of_one s a) → IsOpen (pattern_of (One s)).opening (a ∷ []) × IsScoped 0 (subject_in (pattern_of (One s)) (a ∷ []))
+unfolding kind_at kind_table
 one_from Boolean a h = (tt, h.0)
 one_from Choice a h = (h.0.1, h.0)
 
 two_from : (s : OfTwo) (a b : Tree) → IsScoped 0 (formula_of_two s a b) → IsOpen (pattern_of (Two s)).opening (a ∷ b ∷ []) × IsScoped 0 (subject_in (pattern_of (Two s)) (a ∷ b ∷ []))
+unfolding kind_at kind_table
 two_from Power a b h = (tt, h.0)
 two_from Union a b h = (tt, h.0)
 two_from Subset a b h = (tt, h.0)
@@ -133,6 +139,7 @@ two_from Extensionality a b h = (tt, h.1.0)
 two_from Domain a b h = (tt, h.0)
 
 three_from : (s : OfThree) (a b c : Tree) → IsScoped 0 (formula_of_three s a b c) → IsOpen (pattern_of (Three s)).opening (a ∷ b ∷ c ∷ []) × IsScoped 0 (subject_in (pattern_of (Three s)) (a ∷ b ∷ c ∷ []))
+unfolding kind_at kind_table
 three_from Cup a b c h = (tt, h.0)
 three_from Cap a b c h = (tt, h.0)
 three_from Difference a b c h = (tt, h.0)
@@ -195,6 +202,7 @@ some_is : (x i : Tree) → ◌≡◌ {A = Option Tree} (Some x) (Some i) → IsS
 some_is x i e h = let q : i ≡ x = cc in subst (λ t. IsScoped 0 t) q h
 
 from_row : (s : Schema) → (es : List Tree) (i : Tree) → row_of s 0 es ≡ Some i → IsScoped 0 i → IsProper (pattern_of s) es
+unfolding kind_at kind_table
 from_row (One s) (a ∷ []) i q h = proper (pattern_of (One s)) (a ∷ []) (one_count s) (one_from s a (some_is (formula_of_one s a) i q h))
 from_row (Two s) (a ∷ b ∷ []) i q h = proper (pattern_of (Two s)) (a ∷ b ∷ []) (two_count s) (two_from s a b (some_is (formula_of_two s a b) i q h))
 from_row (Three s) (a ∷ b ∷ c ∷ []) i q h = proper (pattern_of (Three s)) (a ∷ b ∷ c ∷ []) (three_count s) (three_from s a b c (some_is (formula_of_three s a b c) i q h))
@@ -208,7 +216,7 @@ other_number (Two s) (suc z) es i n q = cc
 other_number (Three s) (suc z) es i n q = cc
 other_number FunctionEquality (suc z) es i n q = cc
 
-row_at-get : (rs : List Row) (k : ℕ) → row_at rs k ≡ get_or rs k no_row
+pub row_at-get : (rs : List Row) (k : ℕ) → row_at rs k ≡ get_or rs k no_row
 row_at-get [] k = refl
 row_at-get (r ∷ rs) zero = refl
 row_at-get (r ∷ rs) (suc k) = row_at-get rs k
@@ -216,14 +224,20 @@ row_at-get (r ∷ rs) (suc k) = row_at-get rs k
 rows_are : take 18 (drop 2 rows) ≡ map row_of schemas
 rows_are = refl
 
-patterns_are : patterns ≡ map pattern_of schemas
+abbrev places : List ℕ
+places = 0 ∷ 1 ∷ 2 ∷ 3 ∷ 4 ∷ 5 ∷ 6 ∷ 7 ∷ 8 ∷ 9 ∷ 10 ∷ 11 ∷ 12 ∷ 13 ∷ 14 ∷ 15 ∷ 16 ∷ 17 ∷ []
+
+patterns_are : map pattern_at places ≡ map pattern_of schemas
 patterns_are = refl
+
+place_at : (j : ℕ) → j < 18 → get_or places j 0 ≡ j
+place_at j l = let e : nat_eq (get_or places j 0) j ≡ true = agree_below_at (λ j. nat_eq (get_or places j 0) j) (λ _. true) 18 j refl l in grind (arith, nat_tests)
 
 -- the schema of a pattern
 record IsNamed (k : ℕ) : Type 0 where
   pub schema : Schema
   pub row : instance_of k ≡ row_of schema
-  pub pattern : get_or patterns (k - 2) no_pattern ≡ pattern_of schema
+  pub pattern : pattern_at (k - 2) ≡ pattern_of schema
 
 named : (k : ℕ) → 1 < k → k < 20 → IsNamed k
 named k l m =
@@ -233,13 +247,13 @@ named k l m =
     record {
       schema = get_or schemas j FunctionEquality;
       row = row_at-get rows k ∙ ap (λ i. get_or rows i no_row) (sym e) ∙ sym (get_or-drop 2 rows j no_row) ∙ sym (get_or-take 18 (drop 2 rows) j no_row b) ∙ ap (λ rs. get_or rs j no_row) rows_are ∙ get_or-map row_of schemas j FunctionEquality no_row b;
-      pattern = ap (λ ps. get_or ps j no_pattern) patterns_are ∙ get_or-map pattern_of schemas j FunctionEquality no_pattern b;
+      pattern = ap pattern_at (sym (place_at j b)) ∙ sym (get_or-map pattern_at places j 0 (pattern_at 0) b) ∙ ap (λ ps. get_or ps j (pattern_at 0)) patterns_are ∙ get_or-map pattern_of schemas j FunctionEquality (pattern_at 0) b;
     }
 
 row_numbered : (k z : ℕ) (es : List Tree) (n : IsNamed k) → instance_of k z es ≡ row_of n.schema z es
 row_numbered k z es n = ap (λ (r : Row). r z es) n.row
 
-pub pattern_instance : (ts : List Tree) (k : ℕ) (es : List Tree) (o : Option ℕ) → 1 < k → k < 20 → HasPattern ts (get_or patterns (k - 2) no_pattern) es o → IsInstance ts k 0 es o
+pub pattern_instance : (ts : List Tree) (k : ℕ) (es : List Tree) (o : Option ℕ) → 1 < k → k < 20 → HasPattern ts (pattern_at (k - 2)) es o → IsInstance ts k 0 es o
 pattern_instance ts k es (Some j) l m h =
     let n = named k l m in
     let v : HasPattern ts (pattern_of n.schema) es (Some j) = subst (λ p. HasPattern ts p es (Some j)) n.pattern h in

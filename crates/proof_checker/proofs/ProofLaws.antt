@@ -55,7 +55,7 @@ correct_closed (step r ps) g d c = (c.0, c.1)
 part_whole : (ts : List Tree) (s : Side) (a : Adds) → part_side ts (part_of s a) s.trail ≡ added ts a (seen ts s)
 part_whole ts s a = ap (λ xs. added ts a (side ts (drop s.base xs))) (take_all (length s.trail) s.trail (omega arith))
 
-claim_for : (ts : List Tree) (ps : List Proof) (i : ℕ) (x : Premise) (l r : Side) → Claim ts ps l.trail r.trail (task_for i x l r) ≡ Correct (get_or ps i no_proof) (added ts x.left (seen ts l)) (added ts x.right (seen ts r))
+pub claim_for : (ts : List Tree) (ps : List Proof) (i : ℕ) (x : Premise) (l r : Side) → Claim ts ps l.trail r.trail (task_for i x l r) ≡ Correct (get_or ps i no_proof) (added ts x.left (seen ts l)) (added ts x.right (seen ts r))
 claim_for ts ps i x l r = λ k. Correct (get_or ps i no_proof) (part_whole ts l x.left k) (part_whole ts r x.right k)
 
 -- tasks that are as much as the premises of a step

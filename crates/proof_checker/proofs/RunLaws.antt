@@ -1,17 +1,23 @@
 -- A turn keeps what a run says.
-use Rattle.std.proofs.Common.{◌≡◌, ℕ, zero, suc, ◌+◌, ◌<◌, ◌≤◌, List, [], ◌∷◌, ◌++◌, length, get_or, take, drop, refl, ap, sym, ◌∙◌, arith, subst, length-append}
+use Rattle.std.proofs.Common.{◌≡◌, ℕ, zero, suc, ◌+◌, ◌-◌, ◌<◌, ◌≤◌, List, [], ◌∷◌, ◌++◌, length, get_or, take, drop, refl, ap, sym, ◌∙◌, arith, subst, length-append}
 use Rattle.std.proofs.lemmas.List.{take-take, take-append-le, length-take-le}
 use Rattle.core_expr.specs.Tree.{Tree}
 use Rattle.seq_calculus.specs.Calculus.{Proof, Correct}
-use Rattle.seq_calculus.specs.Steps.{no_proof}
-use Rattle.term_bank.specs.Banks.{Extends}
-use Rattle.proof_checker.specs.Sides.{side, added, AreFormulas, AddsBelow, IsPart, part_side}
-use Rattle.proof_checker.specs.Runs.{steps_in, work, Claim, Claims, IsTask, AreStacked, IsTop, IsTurn, IsRun}
+use Rattle.core_expr.specs.Nodes.{AreBelow, picked}
+use Rattle.seq_calculus.specs.Steps.{no_proof, proofs_of}
+use Rattle.seq_calculus.specs.declared.lists.ProofStep.{ProofStep}
+use Rattle.term_bank.specs.Banks.{Extends, tree_at}
+use Rattle.term_bank.proofs.TableLaws.{picked-extend}
+use Rattle.proof_checker.specs.Sides.{side, seen, added, AreFormulas, AddsBelow, IsPart, part_side}
+use Rattle.proof_checker.specs.Runs.{steps_in, work, Claim, Claims, IsTask, AreStacked, IsTop, IsTurn, IsRun, task_for}
+use Rattle.proof_checker.specs.Plans.{adding}
+use Rattle.proof_checker.specs.declared.side.Side.{Side}
 use Rattle.proof_checker.specs.declared.task.Adds.{Adds}
 use Rattle.proof_checker.specs.declared.task.Adds.TheVariants.{Nothing, One, Both}
 use Rattle.proof_checker.specs.declared.task.Part.{Part}
 use Rattle.proof_checker.specs.declared.task.Task.{Task}
 use Rattle.proof_checker.proofs.SideLaws.{AreFormulas-drop, AreFormulas-take, side-extend, added-extend, longer}
+use Rattle.proof_checker.proofs.ProofLaws.{claim_for}
 
 stacked_low : (n steps low low' l r : ℕ) (ks : List Task) → AreStacked n steps low low' l r ks → (low ≤ l) × (low' ≤ r)
 stacked_low n steps low low' l r [] a = a
@@ -136,3 +142,20 @@ work_falls ts ts' ps steps l r l' r' todo ks todo' k e t =
     let two : work ps todo' ≡ work ps ks + work ps t.tasks = ap (work ps) t.todo_is ∙ work-append ps ks t.tasks in
     let less = t.less in
     omega arith
+
+-- the table's trees stay
+pub same_table : (ts ts' : List Tree) (places : List ℕ) (ss : List ProofStep) → Extends ts ts' → AreBelow (length ts) places → proofs_of (picked ts' places) ss ≡ proofs_of (picked ts places) ss
+same_table ts ts' places ss x b = ap (λ us. proofs_of us ss) (ap (λ us. picked us places) x.1 ∙ picked-extend ts x.0 places b)
+
+pub run_begins : (ts : List Tree) (ps : List Proof) (steps : ℕ) (l r : Side) (goal : ℕ) (todo : List Task) → r ≡ record { trail = []; base = 0 } → todo ≡ task_for (steps - 1) (adding Nothing (One goal)) l r ∷ [] → 0 < steps → AreFormulas ts l.trail → l.base ≡ 0 → goal < length ts → IsRun ts ps steps l.trail r.trail todo (Correct (get_or ps (steps - 1) no_proof) (seen ts l) (tree_at ts goal ∷ []))
+run_begins ts ps steps l r goal todo er et h a b g =
+    rw (et, er) (record {
+      left = a;
+      right = tt;
+      stacked = (record { step = omega arith; left = record { base = omega (arith, b); above = omega arith; adds = tt }; right = record { base = omega arith; above = omega arith; adds = g } }, (omega arith, omega arith));
+      to = λ c. (coe 1 0 (i. claim i) c, tt);
+      from = λ c. coe 0 1 (i. claim i) c.0;
+    })
+  where
+    claim : Claim ts ps l.trail [] (task_for (steps - 1) (adding Nothing (One goal)) l (record { trail = []; base = 0 })) ≡ Correct (get_or ps (steps - 1) no_proof) (seen ts l) (tree_at ts goal ∷ [])
+    claim = claim_for ts ps (steps - 1) (adding Nothing (One goal)) l (record { trail = []; base = 0 })

@@ -16,8 +16,8 @@ use Rattle.proof_checker.specs.declared.task.Part.{Part}
 use Rattle.proof_checker.specs.declared.task.Task.{Task}
 use Rattle.proof_checker.specs.declared.task.Plan.{Plan}
 use Rattle.proof_checker.specs.declared.task.Plan.TheVariants.{Closed, Single, Pair}
-use Rattle.proof_checker.specs.Sides.{AreFormulas, side, part_side, seen, IsPart}
-use Rattle.proof_checker.specs.Plans.{sequents, PlanBelow}
+use Rattle.proof_checker.specs.Sides.{AreFormulas, AddsClosed, IsEntered, side, part_side, seen, IsPart}
+use Rattle.proof_checker.specs.Plans.{sequents, PlanBelow, AreSides}
 
 -- the number of steps of a proof
 abbrev mutual
@@ -91,6 +91,28 @@ pub record IsTop (n steps l r : ℕ) (k : Task) : Type 0 where
   pub task : IsTask n steps 0 0 k
   pub left : k.left.count ≤ l
   pub right : k.right.count ≤ r
+
+-- what a task adds is closed
+abbrev pub AreAddsClosed : List Tree → Task → Type 0
+AreAddsClosed ts k = AddsClosed ts k.left.adds × AddsClosed ts k.right.adds
+
+-- both sides are those of the task
+pub record AreEntered (ts : List Tree) (k : Task) (l r : List ℕ) (s t : Side) : Type 0 where
+  pub left : IsEntered k.left l s
+  pub right : IsEntered k.right r t
+  pub sides : AreSides ts s t
+  pub left_base : s.base ≤ length s.trail
+  pub right_base : t.base ≤ length t.trail
+
+-- a rule over two sides, and the tasks of its premises where it fits and has as many steps
+abbrev pub PutFor : Option Plan → List ℕ → Side → Side → List Task → List Task → Bool → Type 0
+PutFor None is l r old new b = b ≡ false
+PutFor (Some p) is l r old new b = IsPushed p is l r old new b
+
+pub record IsPut (ts ts' : List Tree) (rule : Rule) (l r l' r' : Side) (is : List ℕ) (old new : List Task) (b : Bool) : Type 0 where
+  pub plan : Option Plan
+  pub moves : Moves ts ts' rule l r l' r' plan
+  pub put : PutFor plan is l' r' old new b
 
 -- New tasks are as much as the task k: the trees of the bank stay, the trails keep what stands below the task, and the new tasks
 -- stand on that.

@@ -1,5 +1,5 @@
 -- The schemas as nodes over their parameters.
-use Rattle.std.specs.Prelude.{◌≡◌, ℕ, zero, suc, ◌+◌, ◌-◌, ◌<◌, Bool, true, false, nat_lt, Option, Some, None, List, [], ◌∷◌, ◌++◌, length, map}
+use Rattle.std.specs.Prelude.{◌≡◌, ℕ, zero, suc, ◌+◌, ◌-◌, ◌<◌, Bool, true, false, cond, nat_eq, nat_lt, Option, Some, None, List, [], ◌∷◌, ◌++◌, length, map}
 use Rattle.std.proofs.Common.{get_or}
 use Rattle.core_expr.specs.Tree.{Tree, true_, choose_}
 use Rattle.core_expr.specs.Tree.Tree.{bound}
@@ -10,7 +10,7 @@ use Rattle.term_bank.specs.Banks.{HasTree, HasNode}
 use Rattle.seq_calculus.specs.Schemas.{instance_of}
 use Rattle.proof_checker.specs.declared.pattern.Opening.{Opening}
 use Rattle.proof_checker.specs.declared.pattern.Opening.TheVariants.{Nothing, Chosen, Last}
-use Rattle.proof_checker.specs.declared.pattern.TheConstants.{PATTERNS}
+use Rattle.proof_checker.specs.declared.pattern.TheConstants.{COUNTS, SUBJECTS, CELLS}
 
 -- A schema's formula as nodes over its parameters, an instance of one of them, and the variable of the innermost binder. At
 -- `subject` each parameter stands under as many binders as it may have loose variables.
@@ -20,11 +20,12 @@ pub record Pattern : Type 0 where
   pub subject : ℕ
   pub nodes : List Node
 
-abbrev pub no_pattern : Pattern
-no_pattern = record { count = 0; opening = Nothing; subject = 0; nodes = [] }
+abbrev pub opening_at : ℕ → Opening
+opening_at i = cond (nat_eq i 5) Last (cond (nat_eq i 14) Last (cond (nat_eq i 10) Chosen Nothing))
 
-abbrev pub patterns : List Pattern
-patterns = map (λ r. record { count = r.0; opening = r.1; subject = r.2; nodes = cells_of r.3.now }) PATTERNS
+-- the pattern of the schema i + 2
+abbrev pub pattern_at : ℕ → Pattern
+pattern_at i = record { count = get_or COUNTS i 0; opening = opening_at i; subject = get_or SUBJECTS i 0; nodes = cells_of (get_or (map (λ r. r.now) CELLS) i []) }
 
 -- the instance that a formula has: of the last parameter by the first, or of a body by what satisfies it
 abbrev pub opened : Opening → List Tree → List Tree
@@ -81,3 +82,8 @@ pub record HasHead (ts : List Tree) (i h : ℕ) : Type 0 where
   pub node : Node
   pub has : HasNode ts i node
   pub head : node.head ≡ h
+
+-- the trees of a pattern stand at these places
+pub record IsBuilt (ts : List Tree) (p : Pattern) (es : List Tree) (values : List ℕ) : Type 0 where
+  pub opened_is : IsOpen p.opening es
+  pub placed : ArePlaced ts (trees_in p es) values

@@ -57,7 +57,8 @@ fn add_node(
 {
     let mut indices = Vec::new(alloc);
     fetch(&mut indices, places, parts)?;
-    bank.make(alloc, head, numbers, indices.as_slice())
+    let index = bank.make(alloc, head, numbers, indices.as_slice())?;
+    Ok(index)
 }
 
 /// The index of a node without numbers over the trees at these places.
@@ -89,8 +90,9 @@ pub fn add_cells(
     ensures ok { OnOk result (ArePlaced bank.new
         (trees_from (picked bank.old places.old.items) (cells_of cells.now)) places.new.items) }
 {
-    for cell in cells {
-        let place = add_cell(bank, alloc, places.as_slice(), *cell)?;
+    for i in 0..cells.len() {
+        let cell = cells[i];
+        let place = add_cell(bank, alloc, places.as_slice(), cell)?;
         places.push(place)?;
     }
     Ok(())

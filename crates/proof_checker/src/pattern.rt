@@ -1,11 +1,10 @@
 //! The schemas as nodes over their parameters.
-ghost use Rattle.std.specs.Prelude.{◌≡◌, ◌<◌, ◌++◌, ◌∷◌, [], length, IfOk, IsTrue};
-ghost use Rattle.std.proofs.Common.{get_or};
+ghost use Rattle.std.specs.Prelude.{◌≡◌, ◌<◌, ◌++◌, ◌∷◌, [], length, IfOk, IfSome, IfNone, IsTrue};
 ghost use Rattle.core_expr.specs.Put.{IsScoped, inst};
 ghost use Rattle.core_expr.specs.Nodes.{AreBelow, AreNodes, picked, trees_from};
 ghost use Rattle.term_bank.specs.Banks.{Extends, HasTree, tree_at};
 ghost use Rattle.proof_checker.specs.Tables.{cells_of, ArePlaced};
-ghost use Rattle.proof_checker.specs.Schemas.{patterns, no_pattern, opened, IsOpen, HasPattern, AreOpened, takes_opening, last};
+ghost use Rattle.proof_checker.specs.Schemas.{pattern_at, opening_at, opened, IsOpen, HasPattern, AreOpened, takes_opening, IsBuilt};
 
 use crate::nodes::Cell::{Leaf, One, Three, Two};
 use crate::nodes::{Cell, add_cells};
@@ -24,237 +23,193 @@ pub enum Opening {
     Last,
 }
 
-/// The schemas from 2 to 19. Of each: how many parameters it has; which instance; the place of a formula in which each parameter
-/// stands under as many binders as it may have loose variables; and nodes over the parameters, the instance and the variable of
-/// the innermost binder, each over earlier ones. The last is the schema's formula, where the
-/// parameters have no other loose variables.
-pub const PATTERNS: [(u64, Opening, u64, &[Cell]); 18] = [
+/// How many parameters each schema from 2 to 19 has.
+pub const COUNTS: [u64; 18] = [3, 3, 3, 2, 2, 3, 3, 1, 2, 2, 1, 3, 3, 2, 3, 4, 3, 3];
+
+/// Of each: the place of a formula in which each parameter stands under as many binders as it may have loose variables.
+pub const SUBJECTS: [u64; 18] = [5, 5, 5, 4, 4, 6, 5, 3, 3, 3, 3, 5, 5, 4, 6, 7, 5, 4];
+
+/// Of each: its formula as nodes over the parameters, the instance where it has one, and the variable of the innermost binder.
+/// The last node is the formula, where the parameters have no other loose variables than they may have.
+pub const CELLS: [&[Cell]; 18] = [
     // t \in a \cup b <=> (t \in a \/ t \in b)
-    (
-        3,
-        Opening::Nothing,
-        5,
-        &[
-            Two(18, 1, 2),
-            Two(15, 0, 4),
-            Two(15, 0, 1),
-            Two(15, 0, 2),
-            Two(9, 6, 7),
-            Two(11, 5, 8),
-        ],
-    ),
+    &[
+        Two(18, 1, 2),
+        Two(15, 0, 4),
+        Two(15, 0, 1),
+        Two(15, 0, 2),
+        Two(9, 6, 7),
+        Two(11, 5, 8),
+    ],
     // t \in a \cap b <=> (t \in a /\ t \in b)
-    (
-        3,
-        Opening::Nothing,
-        5,
-        &[
-            Two(19, 1, 2),
-            Two(15, 0, 4),
-            Two(15, 0, 1),
-            Two(15, 0, 2),
-            Two(8, 6, 7),
-            Two(11, 5, 8),
-        ],
-    ),
+    &[
+        Two(19, 1, 2),
+        Two(15, 0, 4),
+        Two(15, 0, 1),
+        Two(15, 0, 2),
+        Two(8, 6, 7),
+        Two(11, 5, 8),
+    ],
     // t \in a \ b <=> (t \in a /\ ~(t \in b))
-    (
-        3,
-        Opening::Nothing,
-        5,
-        &[
-            Two(20, 1, 2),
-            Two(15, 0, 4),
-            Two(15, 0, 1),
-            Two(15, 0, 2),
-            One(7, 7),
-            Two(8, 6, 8),
-            Two(11, 5, 9),
-        ],
-    ),
+    &[
+        Two(20, 1, 2),
+        Two(15, 0, 4),
+        Two(15, 0, 1),
+        Two(15, 0, 2),
+        One(7, 7),
+        Two(8, 6, 8),
+        Two(11, 5, 9),
+    ],
     // t \in SUBSET a <=> t \subseteq a
-    (
-        2,
-        Opening::Nothing,
-        4,
-        &[One(21, 1), Two(15, 0, 3), Two(16, 0, 1), Two(11, 4, 5)],
-    ),
+    &[One(21, 1), Two(15, 0, 3), Two(16, 0, 1), Two(11, 4, 5)],
     // t \in UNION a <=> \E x : (x \in a /\ t \in x)
-    (
-        2,
-        Opening::Nothing,
-        4,
-        &[
-            One(22, 1),
-            Two(15, 0, 3),
-            Two(15, 2, 1),
-            Two(15, 0, 2),
-            Two(8, 5, 6),
-            One(13, 7),
-            Two(11, 4, 8),
-        ],
-    ),
+    &[
+        One(22, 1),
+        Two(15, 0, 3),
+        Two(15, 2, 1),
+        Two(15, 0, 2),
+        Two(8, 5, 6),
+        One(13, 7),
+        Two(11, 4, 8),
+    ],
     // t \in {x \in a : P} <=> (t \in a /\ P[t])
-    (
-        3,
-        Opening::Last,
-        6,
-        &[
-            Two(23, 1, 2),
-            Two(15, 0, 5),
-            Two(15, 0, 1),
-            Two(8, 7, 3),
-            Two(11, 6, 8),
-        ],
-    ),
+    &[
+        Two(23, 1, 2),
+        Two(15, 0, 5),
+        Two(15, 0, 1),
+        Two(8, 7, 3),
+        Two(11, 6, 8),
+    ],
     // t \in {e : x \in a} <=> \E x : (x \in a /\ t = e)
-    (
-        3,
-        Opening::Nothing,
-        5,
-        &[
-            Two(24, 1, 2),
-            Two(15, 0, 4),
-            Two(15, 3, 1),
-            Two(14, 0, 2),
-            Two(8, 6, 7),
-            One(13, 8),
-            Two(11, 5, 9),
-        ],
-    ),
+    &[
+        Two(24, 1, 2),
+        Two(15, 0, 4),
+        Two(15, 3, 1),
+        Two(14, 0, 2),
+        Two(8, 6, 7),
+        One(13, 8),
+        Two(11, 5, 9),
+    ],
     // t \in BOOLEAN <=> (t = TRUE \/ t = FALSE)
-    (
-        1,
-        Opening::Nothing,
-        3,
-        &[
-            Leaf(4),
-            Two(15, 0, 2),
-            Leaf(0),
-            Two(14, 0, 4),
-            Leaf(1),
-            Two(14, 0, 6),
-            Two(9, 5, 7),
-            Two(11, 3, 8),
-        ],
-    ),
+    &[
+        Leaf(4),
+        Two(15, 0, 2),
+        Leaf(0),
+        Two(14, 0, 4),
+        Leaf(1),
+        Two(14, 0, 6),
+        Two(9, 5, 7),
+        Two(11, 3, 8),
+    ],
     // a \subseteq b <=> \A x : (x \in a => x \in b)
-    (
-        2,
-        Opening::Nothing,
-        3,
-        &[
-            Two(16, 0, 1),
-            Two(15, 2, 0),
-            Two(15, 2, 1),
-            Two(10, 4, 5),
-            One(12, 6),
-            Two(11, 3, 7),
-        ],
-    ),
+    &[
+        Two(16, 0, 1),
+        Two(15, 2, 0),
+        Two(15, 2, 1),
+        Two(10, 4, 5),
+        One(12, 6),
+        Two(11, 3, 7),
+    ],
     // (\A x : (x \in a <=> x \in b)) => a = b
-    (
-        2,
-        Opening::Nothing,
-        3,
-        &[
-            Two(14, 0, 1),
-            Two(15, 2, 0),
-            Two(15, 2, 1),
-            Two(11, 4, 5),
-            One(12, 6),
-            Two(10, 7, 3),
-        ],
-    ),
+    &[
+        Two(14, 0, 1),
+        Two(15, 2, 0),
+        Two(15, 2, 1),
+        Two(11, 4, 5),
+        One(12, 6),
+        Two(10, 7, 3),
+    ],
     // (\E x : P) => P[CHOOSE x : P]
-    (1, Opening::Chosen, 3, &[One(13, 0), Two(10, 3, 1)]),
+    &[One(13, 0), Two(10, 3, 1)],
     // p => (IF p THEN a ELSE b) = a
-    (
-        3,
-        Opening::Nothing,
-        5,
-        &[Three(31, 0, 1, 2), Two(14, 4, 1), Two(10, 0, 5)],
-    ),
+    &[Three(31, 0, 1, 2), Two(14, 4, 1), Two(10, 0, 5)],
     // ~p => (IF p THEN a ELSE b) = b
-    (
-        3,
-        Opening::Nothing,
-        5,
-        &[Three(31, 0, 1, 2), Two(14, 4, 2), One(7, 0), Two(10, 6, 5)],
-    ),
+    &[Three(31, 0, 1, 2), Two(14, 4, 2), One(7, 0), Two(10, 6, 5)],
     // DOMAIN [x \in s |-> e] = s
-    (
-        2,
-        Opening::Nothing,
-        4,
-        &[Two(25, 0, 1), One(27, 3), Two(14, 4, 0)],
-    ),
+    &[Two(25, 0, 1), One(27, 3), Two(14, 4, 0)],
     // a \in s => [x \in s |-> e][a] = e[a]
-    (
-        3,
-        Opening::Last,
-        6,
-        &[
-            Two(25, 1, 2),
-            Two(28, 5, 0),
-            Two(15, 0, 1),
-            Two(14, 6, 3),
-            Two(10, 7, 8),
-        ],
-    ),
+    &[
+        Two(25, 1, 2),
+        Two(28, 5, 0),
+        Two(15, 0, 1),
+        Two(14, 6, 3),
+        Two(10, 7, 8),
+    ],
     // [x \in s |-> d] = [x \in t |-> e] <=> (s = t /\ \A x : (x \in s => d = e))
-    (
-        4,
-        Opening::Nothing,
-        7,
-        &[
-            Two(25, 0, 1),
-            Two(25, 2, 3),
-            Two(14, 5, 6),
-            Two(14, 0, 2),
-            Two(15, 4, 0),
-            Two(14, 1, 3),
-            Two(10, 9, 10),
-            One(12, 11),
-            Two(8, 8, 12),
-            Two(11, 7, 13),
-        ],
-    ),
+    &[
+        Two(25, 0, 1),
+        Two(25, 2, 3),
+        Two(14, 5, 6),
+        Two(14, 0, 2),
+        Two(15, 4, 0),
+        Two(14, 1, 3),
+        Two(10, 9, 10),
+        One(12, 11),
+        Two(8, 8, 12),
+        Two(11, 7, 13),
+    ],
     // f \in [s -> t] <=> (f = [x \in s |-> f[x]] /\ \A x : (x \in s => f[x] \in t))
-    (
-        3,
-        Opening::Nothing,
-        5,
-        &[
-            Two(26, 1, 2),
-            Two(15, 0, 4),
-            Two(28, 0, 3),
-            Two(25, 1, 6),
-            Two(14, 0, 7),
-            Two(15, 3, 1),
-            Two(15, 6, 2),
-            Two(10, 9, 10),
-            One(12, 11),
-            Two(8, 8, 12),
-            Two(11, 5, 13),
-        ],
-    ),
+    &[
+        Two(26, 1, 2),
+        Two(15, 0, 4),
+        Two(28, 0, 3),
+        Two(25, 1, 6),
+        Two(14, 0, 7),
+        Two(15, 3, 1),
+        Two(15, 6, 2),
+        Two(10, 9, 10),
+        One(12, 11),
+        Two(8, 8, 12),
+        Two(11, 5, 13),
+    ],
     // [f EXCEPT ![a] = b] = [x \in DOMAIN f |-> IF x = a THEN b ELSE f[x]]
-    (
-        3,
-        Opening::Nothing,
-        4,
-        &[
-            Three(29, 0, 1, 2),
-            One(27, 0),
-            Two(14, 3, 1),
-            Two(28, 0, 3),
-            Three(31, 6, 2, 7),
-            Two(25, 5, 8),
-            Two(14, 4, 9),
-        ],
-    ),
+    &[
+        Three(29, 0, 1, 2),
+        One(27, 0),
+        Two(14, 3, 1),
+        Two(28, 0, 3),
+        Three(31, 6, 2, 7),
+        Two(25, 5, 8),
+        Two(14, 4, 9),
+    ],
 ];
+
+/// Which instance the formula of each has.
+fn opening_at(i: u64) -> Opening
+    ensures { result ≡ opening_at i }
+{
+    match i {
+        5 | 14 => Opening::Last,
+        10 => Opening::Chosen,
+        _ => Opening::Nothing,
+    }
+}
+
+/// How many parameters there are.
+fn count_at(i: u64) -> u64
+    requires { i < 18 }
+    ensures { result ≡ (pattern_at i).count }
+{
+    COUNTS[i as usize]
+}
+
+/// The place of the formula in which each parameter stands as it may.
+fn subject_at(i: u64) -> u64
+    requires { i < 18 }
+    ensures { result ≡ (pattern_at i).subject }
+{
+    SUBJECTS[i as usize]
+}
+
+/// The nodes.
+fn cells_at(i: u64) -> &'static [Cell]
+    ensures { cells_of result.now ≡ (pattern_at i).nodes }
+{
+    match CELLS.get(i as usize) {
+        Some(cells) => *cells,
+        None => &[],
+    }
+}
 
 /// Adds the instance of a body, where the term is closed and the body has at most one loose variable.
 fn add_instance(
@@ -313,6 +268,28 @@ fn add_opening(
     }
 }
 
+/// The trees of a pattern with these parameters; None where they have other loose variables than its instance may have.
+fn build(bank: &mut Bank, alloc: Global, i: u64, params: &[u64]) -> Result<Option<Vec<u64>>, Memory>
+    requires pattern { i < 18 }
+    requires params { AreBelow (length bank.old) params.now }
+    requires count { length params.now ≡ (pattern_at i).count }
+    ensures extends { Extends bank.old bank.new }
+    ensures some { IfOk result (λ o. IfSome o (λ v. IsBuilt bank.new (pattern_at i)
+        (picked bank.old params.now) v.items)) }
+    ensures none { IfOk result (λ o. IfNone o
+        (IsOpen (pattern_at i).opening (picked bank.old params.now) → ⊥)) }
+{
+    let mut values = Vec::from_slice(alloc, params)?;
+    let begun = add_opening(bank, alloc, opening_at(i), &mut values)?;
+    if !begun {
+        return Ok(None);
+    }
+    let variable = bank.make(alloc, 5, &[0], &[])?;
+    values.push(variable)?;
+    add_cells(bank, alloc, &mut values, cells_at(i))?;
+    Ok(Some(values))
+}
+
 /// The formula of a pattern with these parameters, where they have no other loose variables than they may have.
 pub fn pattern_at(
     bank: &mut Bank,
@@ -323,22 +300,22 @@ pub fn pattern_at(
     requires pattern { i < 18 }
     requires params { AreBelow (length bank.old) params.now }
     ensures extends { Extends bank.old bank.new }
-    ensures ok { IfOk result (λ o. HasPattern bank.new (get_or patterns i no_pattern)
+    ensures ok { IfOk result (λ o. HasPattern bank.new (pattern_at i)
         (picked bank.old params.now) o) }
 {
-    let (count, opening, subject, cells) = PATTERNS[i as usize];
-    if params.len() as u64 != count {
+    if params.len() as u64 != count_at(i) {
         return Ok(None);
     }
-    let mut values = Vec::from_slice(alloc, params)?;
-    if !add_opening(bank, alloc, opening, &mut values)? {
-        return Ok(None);
+    let built = build(bank, alloc, i, params)?;
+    match built {
+        None => Ok(None),
+        Some(values) => {
+            let subject = values[subject_at(i) as usize];
+            if !bank.is_closed(subject) {
+                return Ok(None);
+            }
+            let formula = values[values.len() - 1];
+            Ok(Some(formula))
+        }
     }
-    let variable = bank.make(alloc, 5, &[0], &[])?;
-    values.push(variable)?;
-    add_cells(bank, alloc, &mut values, cells)?;
-    if !bank.is_closed(values[subject as usize]) {
-        return Ok(None);
-    }
-    Ok(Some(values[values.len() - 1]))
 }

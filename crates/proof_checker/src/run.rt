@@ -1,5 +1,5 @@
 //! The run of the checker: a list of tasks in place of recursion.
-ghost use Rattle.std.specs.Prelude.{◌≡◌, ◌↔◌, ◌-◌, ◌<◌, ◌≤◌, ◌++◌, ◌∷◌, [], length, take, drop, IfOk, OnOk, IsTrue};
+ghost use Rattle.std.specs.Prelude.{◌≡◌, ◌↔◌, ◌+◌, ◌-◌, ◌<◌, ◌≤◌, ◌++◌, ◌∷◌, [], length, take, drop, IfOk, OnOk, IsTrue};
 ghost use Rattle.std.proofs.Common.{get_or};
 ghost use Rattle.core_expr.specs.Nodes.{AreBelow, picked};
 ghost use Rattle.term_bank.specs.Banks.{tree_at};
@@ -8,7 +8,7 @@ ghost use Rattle.seq_calculus.specs.Lists.{AreSteps, step_fits};
 ghost use Rattle.seq_calculus.specs.Steps.{proofs_of, no_proof, rule_of, of_lists};
 ghost use Rattle.proof_checker.specs.Sides.{seen, AreFormulas};
 ghost use Rattle.proof_checker.specs.Plans.{AreSides};
-ghost use Rattle.proof_checker.specs.Runs.{task_for, IsPushed, Weakens, Moves, IsTop, IsTurn, Claim};
+ghost use Rattle.proof_checker.specs.Runs.{task_for, IsPushed, Weakens, Moves, IsPut, IsTop, AreEntered, AreAddsClosed, IsTurn, Claim};
 
 use crate::nodes::fetch;
 use crate::plan::{left_plan, plan};
@@ -154,6 +154,59 @@ fn advance(
     }
 }
 
+/// Takes both sides back to what a task says. False where a formula that is added is open.
+fn enter(bank: &Bank, left: &mut Side, right: &mut Side, task: Task) -> Result<bool, Memory>
+    requires sides { AreSides bank.now left.old right.old }
+    requires top { IsTop (length bank.now) (task.step + 1) (length left.old.trail) (length right.old.trail) task }
+    ensures yes { IfOk result (λ b. IsTrue b → AreEntered bank.now task
+        left.old.trail right.old.trail left.new right.new) }
+    ensures no { IfOk result (λ b. (IsTrue b → ⊥) → AreAddsClosed bank.now task → ⊥) }
+{
+    if !left.enter(bank, task.left)? {
+        return Ok(false);
+    }
+    let entered = right.enter(bank, task.right)?;
+    Ok(entered)
+}
+
+/// A step of a proof.
+fn step_at(steps: &[ProofStep], i: u64) -> &ProofStep
+    requires { i < length steps.now }
+    ensures { result.now ≡ get_or steps.now i result.now }
+{
+    &steps[i as usize]
+}
+
+/// Puts the premises of a step over two sides on the list. False where it does not fit.
+fn put_step(
+    bank: &mut Bank,
+    alloc: Global,
+    left: &mut Side,
+    right: &mut Side,
+    todo: &mut Vec<Task>,
+    step: &ProofStep,
+    operands: &[u64],
+) -> Result<bool, Memory>
+    requires sides { AreSides bank.old left.old right.old }
+    requires left_base { left.old.base ≤ length left.old.trail }
+    requires right_base { right.old.base ≤ length right.old.trail }
+    requires below { AreBelow (length bank.old) operands.now }
+    requires form { IsTrue (step_fits step.now) }
+    requires count { length operands.now ≡ length step.now.exprs }
+    ensures { IfOk result (λ b. IsPut bank.old bank.new
+        (rule_of step.now.rule step.now.numbers (picked bank.old operands.now))
+        left.old right.old left.new right.new step.now.premises todo.old.items todo.new.items b) }
+{
+    let found = advance(bank, alloc, left, right, step, operands)?;
+    match found {
+        Some(plan) => {
+            let put = push_premises(todo, plan, step.premises.as_slice(), left, right)?;
+            Ok(put)
+        }
+        None => Ok(false),
+    }
+}
+
 /// One task: false where its claim does not hold, else its premises are put on the list.
 fn turn(
     bank: &mut Bank,
@@ -179,22 +232,14 @@ fn turn(
         (proofs_of (picked bank.old places.now) steps.now)
         left.old.trail right.old.trail task → ⊥) }
 {
-    if !left.enter(bank, task.left)? {
+    let entered = enter(bank, left, right, task)?;
+    if !entered {
         return Ok(false);
     }
-    if !right.enter(bank, task.right)? {
-        return Ok(false);
-    }
-    let step = &steps[task.step as usize];
+    let step = step_at(steps, task.step);
     fetch(operands, places, step.exprs.as_slice())?;
-    let found = advance(bank, alloc, left, right, step, operands.as_slice())?;
-    match found {
-        Some(plan) => {
-            let put = push_premises(todo, plan, step.premises.as_slice(), left, right)?;
-            Ok(put)
-        }
-        None => Ok(false),
-    }
+    let put = put_step(bank, alloc, left, right, todo, step, operands.as_slice())?;
+    Ok(put)
 }
 
 /// Whether the last step's proof is correct for what is on the left, and the goal.
@@ -222,7 +267,7 @@ pub fn run(
     let premise = adding(Adds::Nothing, Adds::One(goal));
     todo.push(task_of(steps.len() as u64 - 1, premise, left, &right))?;
     while let Some(task) = todo.pop() {
-        if !turn(
+        let holds = turn(
             bank,
             alloc,
             steps,
@@ -232,7 +277,8 @@ pub fn run(
             &mut operands,
             &mut todo,
             task,
-        )? {
+        )?;
+        if !holds {
             return Ok(false);
         }
     }

@@ -28,7 +28,8 @@ fn by_pattern(
     if number != 0 {
         return Ok(None);
     }
-    pattern_at(bank, alloc, schema - 2, params)
+    let found = pattern_at(bank, alloc, schema - 2, params)?;
+    Ok(found)
 }
 
 /// The formula of the schema with this number, from 1 to 22, and these parameters. None where it has no closed instance.

@@ -27,6 +27,7 @@ const ENTRY: [Cell; 2] = [Two(28, 0, 1), Two(14, 3, 2)];
 const DIFFERENCE: [Cell; 2] = [Two(14, 0, 1), One(7, 2)];
 
 /// The last tree of nodes over these.
+#[tactic(auto, unfolding(core_expr::specs::Heads::kind_at, core_expr::specs::Heads::kind_table))]
 fn finish(bank: &mut Bank, alloc: Global, items: &[u64], cells: &[Cell]) -> Result<u64, Memory>
     requires cells { AreNodes (length items.now) (cells_of cells.now) }
     requires some { 0 < length items.now }
@@ -41,6 +42,7 @@ fn finish(bank: &mut Bank, alloc: Global, items: &[u64], cells: &[Cell]) -> Resu
 }
 
 /// The equation of each two that stand at the same place.
+#[tactic(auto, unfolding(core_expr::specs::Heads::kind_at, core_expr::specs::Heads::kind_table))]
 fn equations(
     bank: &mut Bank,
     alloc: Global,
@@ -80,7 +82,8 @@ fn join(
         (picked bank.old items.now))) }
 {
     if items.is_empty() {
-        return bank.make(alloc, none, &[], &[]);
+        let alone = bank.make(alloc, none, &[], &[])?;
+        return Ok(alone);
     }
     let mut joined = items[0];
     for item in &items[1..] {
@@ -108,11 +111,13 @@ fn join_equations(
         (join (λ a b. node_make connective [] (a ∷ b ∷ [])) (node_make none [] [])
         (equal_pairs (picked bank.old left.now) (picked bank.old right.now)))) }
 {
-    let equations = equations(bank, alloc, left, right)?;
-    join(bank, alloc, connective, none, equations.as_slice())
+    let pairs = equations(bank, alloc, left, right)?;
+    let joined = join(bank, alloc, connective, none, pairs.as_slice())?;
+    Ok(joined)
 }
 
 /// The formula about a set whose elements are listed.
+#[tactic(auto, unfolding(core_expr::specs::Heads::kind_at, core_expr::specs::Heads::kind_table))]
 fn about_enumeration(
     bank: &mut Bank,
     alloc: Global,
@@ -128,7 +133,8 @@ fn about_enumeration(
     let set = bank.make(alloc, 17, &[elements.len() as u64], elements)?;
     let terms: Vec<u64> = vec![in alloc; term; elements.len()]?;
     let meaning = join_equations(bank, alloc, 9, 1, terms.as_slice(), elements)?;
-    finish(bank, alloc, &[term, set, meaning], &MEMBERSHIP)
+    let formula = finish(bank, alloc, &[term, set, meaning], &MEMBERSHIP)?;
+    Ok(formula)
 }
 
 /// The instance about a set whose elements are listed: the parameters are the term and the elements.
@@ -148,10 +154,13 @@ pub fn enumeration(
     if params.is_empty() {
         return Ok(None);
     }
-    Ok(Some(about_enumeration(bank, alloc, params[0], &params[1..])?))
+    let term = params[0];
+    let formula = about_enumeration(bank, alloc, term, &params[1..])?;
+    Ok(Some(formula))
 }
 
 /// What the equality of two tuples means: each two entries are equal, or FALSE where they are not as many.
+#[tactic(auto, unfolding(core_expr::specs::Heads::kind_at, core_expr::specs::Heads::kind_table))]
 fn tuple_meaning(bank: &mut Bank, alloc: Global, left: &[u64], right: &[u64]) -> Result<u64, Memory>
     requires left { AreBelow (length bank.old) left.now }
     requires right { AreBelow (length bank.old) right.now }
@@ -160,12 +169,15 @@ fn tuple_meaning(bank: &mut Bank, alloc: Global, left: &[u64], right: &[u64]) ->
         (tuple_meaning (picked bank.old left.now) (picked bank.old right.now))) }
 {
     if left.len() != right.len() {
-        return bank.make(alloc, 1, &[], &[]);
+        let never = bank.make(alloc, 1, &[], &[])?;
+        return Ok(never);
     }
-    join_equations(bank, alloc, 8, 0, left, right)
+    let joined = join_equations(bank, alloc, 8, 0, left, right)?;
+    Ok(joined)
 }
 
 /// The formula about two tuples.
+#[tactic(auto, unfolding(core_expr::specs::Heads::kind_at, core_expr::specs::Heads::kind_table))]
 fn about_tuples(bank: &mut Bank, alloc: Global, left: &[u64], right: &[u64]) -> Result<u64, Memory>
     requires left { AreBelow (length bank.old) left.now }
     requires right { AreBelow (length bank.old) right.now }
@@ -176,7 +188,8 @@ fn about_tuples(bank: &mut Bank, alloc: Global, left: &[u64], right: &[u64]) -> 
     let first = bank.make(alloc, 30, &[left.len() as u64], left)?;
     let second = bank.make(alloc, 30, &[right.len() as u64], right)?;
     let meaning = tuple_meaning(bank, alloc, left, right)?;
-    finish(bank, alloc, &[first, second, meaning], &EQUALITY)
+    let formula = finish(bank, alloc, &[first, second, meaning], &EQUALITY)?;
+    Ok(formula)
 }
 
 /// The instance about two tuples: the first `number` parameters are the entries of the first.
@@ -194,10 +207,12 @@ pub fn tuple_equality(
         return Ok(None);
     }
     let at = number as usize;
-    Ok(Some(about_tuples(bank, alloc, &params[..at], &params[at..])?))
+    let formula = about_tuples(bank, alloc, &params[..at], &params[at..])?;
+    Ok(Some(formula))
 }
 
 /// The formula about the entry `number` of a tuple.
+#[tactic(auto, unfolding(core_expr::specs::Heads::kind_at, core_expr::specs::Heads::kind_table))]
 fn about_entry(
     bank: &mut Bank,
     alloc: Global,
@@ -213,7 +228,8 @@ fn about_entry(
 {
     let tuple = bank.make(alloc, 30, &[entries.len() as u64], entries)?;
     let numeral = bank.make(alloc, 2, &[0, number], &[])?;
-    finish(bank, alloc, &[tuple, numeral, entry], &ENTRY)
+    let formula = finish(bank, alloc, &[tuple, numeral, entry], &ENTRY)?;
+    Ok(formula)
 }
 
 /// The instance about the entry `number`, from 1, of the tuple of the parameters.
@@ -234,7 +250,8 @@ pub fn tuple_entry(
         return Ok(None);
     }
     let entry = params[(number - 1) as usize];
-    Ok(Some(about_entry(bank, alloc, params, number, entry)?))
+    let formula = about_entry(bank, alloc, params, number, entry)?;
+    Ok(Some(formula))
 }
 
 /// The head number of a tree of the bank.
@@ -259,6 +276,7 @@ fn are_apart(bank: &Bank, l: u64, m: u64) -> bool
 }
 
 /// The instance about two literals.
+#[tactic(auto, unfolding(core_expr::specs::Heads::kind_at, core_expr::specs::Heads::kind_table))]
 pub fn literals(
     bank: &mut Bank,
     alloc: Global,
@@ -278,5 +296,6 @@ pub fn literals(
     if !are_apart(bank, params[0], params[1]) {
         return Ok(None);
     }
-    Ok(Some(finish(bank, alloc, params, &DIFFERENCE)?))
+    let formula = finish(bank, alloc, params, &DIFFERENCE)?;
+    Ok(Some(formula))
 }

@@ -5,6 +5,6 @@ use Rattle.proof_checker.specs.Tables.{cells_of}
 use Rattle.proof_checker.proofs.NodeLaws.{IsTable}
 use Rattle.proof_checker.proofs.nodes.add_cells.Given as goal
 
-abbrev pub invariant-loop-cell : goal.invariant-loop-cell
-invariant-loop-cell l =
-    IsTable l.bank l.places.items (cells_of (drop l.cell-index l.cells)) (trees_from (picked l.fn.bank l.fn.places.items) (cells_of l.cells)) × Extends l.fn.bank l.bank
+abbrev pub invariant-loop-i : goal.invariant-loop-i
+invariant-loop-i l =
+    IsTable l.bank l.places.items (cells_of (drop l.i l.cells)) (trees_from (picked l.fn.bank l.fn.places.items) (cells_of l.cells)) × Extends l.fn.bank l.bank
