@@ -103,9 +103,19 @@ value_at ts table values j v l e a =
 pub subject_at : (ts : List Tree) (i : ℕ) (es : List Tree) (values : List ℕ) (v : ℕ) → i < 18 → length es ≡ (pattern_at i).count → IsBuilt ts (pattern_at i) es values → v ≡ get_or values (pattern_at i).subject v → HasTree ts v (subject_in (pattern_at i) es)
 subject_at ts i es values v l c a e = value_at ts (trees_in (pattern_at i) es) values (pattern_at i).subject v (subject_within ts i es values l c a) e a.placed
 
-pub formula_at : (ts : List Tree) (i : ℕ) (es : List Tree) (values : List ℕ) (v : ℕ) → i < 18 → length es ≡ (pattern_at i).count → IsBuilt ts (pattern_at i) es values → v ≡ get_or values (length values - 1) v → HasTree ts v (formula_in (pattern_at i) es)
-formula_at ts i es values v l c a e =
-    let m = built_length ts i es values l c a in
+pub last_placed : (ts table : List Tree) (values : List ℕ) (v : ℕ) → 0 < length values → v ≡ get_or values (length values - 1) v → ArePlaced ts table values → HasTree ts v (last table)
+last_placed ts table values v l e a =
     let b : length values - 1 < length values = omega arith in
-    let n : length values ≡ length (trees_in (pattern_at i) es) = sym (length-picked ts values) ∙ ap length a.placed.trees in
-    coe 0 1 (k. HasTree ts v (get_or (trees_in (pattern_at i) es) (n k - 1) true_)) (value_at ts (trees_in (pattern_at i) es) values (length values - 1) v b e a.placed)
+    let n : length values ≡ length table = sym (length-picked ts values) ∙ ap length a.trees in
+    coe 0 1 (k. HasTree ts v (get_or table (n k - 1) true_)) (value_at ts table values (length values - 1) v b e a)
+
+pub some_placed : (ts ts' : List Tree) (items values : List ℕ) (ns : List Node) → 0 < length items → ArePlaced ts' (trees_from (picked ts items) ns) values → 0 < length values
+some_placed ts ts' items values ns l a = omega (arith, length-picked ts' values, ap length a.trees, length-trees_from (picked ts items) ns, length-picked ts items)
+
+pub built_some : (ts : List Tree) (i : ℕ) (es : List Tree) (values : List ℕ) → i < 18 → length es ≡ (pattern_at i).count → IsBuilt ts (pattern_at i) es values → 0 < length values
+built_some ts i es values l c a = let m = built_length ts i es values l c a in omega arith
+
+pub built : (ts ts1 ts2 ts3 : List Tree) (i : ℕ) (params values values' values'' : List ℕ) (v : ℕ) (ns : List Node) → Extends ts1 ts2 → AreOpened ts ts1 (IsOpen (pattern_at i).opening (picked ts params)) (opened (pattern_at i).opening (picked ts params)) params values true → HasTree ts2 v (bound 0) → values' ≡ values ++ v ∷ [] → ns ≡ (pattern_at i).nodes → ArePlaced ts3 (trees_from (picked ts2 values') ns) values'' → IsBuilt ts3 (pattern_at i) (picked ts params) values''
+built ts ts1 ts2 ts3 i params values values' values'' v ns x a h e n p =
+    let u = variable_put ts ts1 ts2 (pattern_at i).opening params values values' v x a h e in
+    record { opened_is = a.0; placed = coe 0 1 (k. ArePlaced ts3 (trees_from (u.trees k) (n k)) values'') p }

@@ -7,6 +7,7 @@ use Rattle.core_expr.specs.Put.{IsScoped}
 use Rattle.core_expr.specs.Nodes.{AreBelow, AreNodes, picked, trees_of}
 use Rattle.seq_calculus.specs.Calculus.{AllClosed, Correct}
 use Rattle.seq_calculus.specs.Lists.{Lists, AreLists, AreSteps, node_of}
+use Rattle.seq_calculus.specs.declared.lists.ProofNode.{ProofNode}
 use Rattle.seq_calculus.specs.Steps.{no_proof, proofs_of, proof_of}
 use Rattle.term_bank.specs.Banks.{Extends, HasTree, tree_at}
 use Rattle.term_bank.proofs.TableLaws.{length-picked, length-trees_of, AreBelow-more}
@@ -74,3 +75,6 @@ checked ts1 ts2 ts3 l places s facts goal e b a x y f h w =
 
 pub places_later : (ts ts' : List Tree) (table : List Tree) (places : List ℕ) → Extends ts ts' → ArePlaced ts table places → AreBelow (length ts') places
 places_later ts ts' table places x a = AreBelow-more (length ts) (length ts') places (longer ts ts' x) a.below
+
+pub table_in : (ts : List Tree) (l : Lists) (nodes : List ProofNode) (places : List ℕ) → nodes ≡ l.nodes → ArePlaced ts (trees_of (map node_of nodes)) places → ArePlaced ts (trees_of (map node_of l.nodes)) places
+table_in ts l nodes places e a = subst (λ (ns : List ProofNode). ArePlaced ts (trees_of (map node_of ns)) places) e a

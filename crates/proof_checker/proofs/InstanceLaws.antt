@@ -10,7 +10,7 @@ use Rattle.core_expr.specs.Tree.{Tree, eq_, not_}
 use Rattle.core_expr.specs.Tree.Tree.{node}
 use Rattle.core_expr.specs.Tree.Parts.{end}
 use Rattle.core_expr.specs.Put.{IsScoped}
-use Rattle.core_expr.specs.Heads.{kind_at, kind_table, kind_number, is_text, IsWellFormed, after_first}
+use Rattle.core_expr.specs.Heads.{kind_at, kind_table, kind_number, is_text, are_bytes, IsWellFormed, after_first}
 use Rattle.core_expr.specs.Places.{kind_of}
 use Rattle.core_expr.specs.Nodes.{Node, AreBelow, picked, node_fits, node_make, tree_over, trees_from}
 use Rattle.core_expr.specs.Laws.{ShowsNode}
@@ -19,7 +19,7 @@ use Rattle.seq_calculus.specs.Literals.{is_literal}
 use Rattle.seq_calculus.specs.Schemas.{Row, no_row, rows, instance_of, if_closed, row20, row21, row22, about_enumeration, about_tuples, about_entry, are_apart}
 use Rattle.seq_calculus.proofs.Closed.{if_closed-some}
 use Rattle.seq_calculus.proofs.Tuples.{tuples_row, tuples_past, entry_row, entry_past}
-use Rattle.seq_calculus.proofs.Lone.{apart_other, apart_tested, apart_roots, not_apart}
+use Rattle.seq_calculus.proofs.Lone.{apart_differs, apart_other, apart_tested, apart_roots, not_apart}
 use Rattle.term_bank.specs.Banks.{IsDistinct, HasTree, HasNode, tree_at}
 use Rattle.term_bank.proofs.TableLaws.{length-picked, fits-picked, is_true}
 use Rattle.proof_checker.specs.Tables.{cells_of}
@@ -30,7 +30,7 @@ use Rattle.proof_checker.proofs.TupleLaws.{picked-read}
 use Rattle.proof_checker.proofs.PatternLaws.{row_at-get}
 
 -- a set whose elements are listed
-pub enumeration_some : (ts ts' : List Tree) (params : List ℕ) (term number j : ℕ) → number ≡ 0 → 0 < length params → term ≡ get_or params 0 term → HasTree ts' j (about_enumeration (tree_at ts term) (picked ts (drop 1 params))) → IsInstance ts' 1 number (picked ts params) (Some j)
+pub enumeration_some : (ts ts' : List Tree) (params : List ℕ) (term number j : ℕ) → number ≡ 0 → 0 < length params → term ≡ get_or params 0 0 → HasTree ts' j (about_enumeration (tree_at ts term) (picked ts (drop 1 params))) → IsInstance ts' 1 number (picked ts params) (Some j)
 enumeration_some ts ts' [] term number j n l e h = absurd (omega arith)
 enumeration_some ts ts' (x ∷ xs) term zero j n l e h = (about_enumeration (tree_at ts x) (picked ts xs), refl, subst (λ y. HasTree ts' j (about_enumeration (tree_at ts y) (picked ts xs))) e h)
 enumeration_some ts ts' (x ∷ xs) term (suc number) j n l e h = cc
@@ -56,7 +56,7 @@ pub tuples_none : (ts ts' : List Tree) (params : List ℕ) (z : ℕ) → length 
 tuples_none ts ts' params z l = not_closed (row20 z (picked ts params)) (tuples_past z (picked ts params) (omega (arith, length-picked ts params)))
 
 -- an entry
-pub entry_some : (ts ts' : List Tree) (params : List ℕ) (z e j : ℕ) → ¬ (z ≡ 0) → z ≤ length params → e ≡ get_or params (z - 1) e → HasTree ts' j (about_entry (picked ts params) z (tree_at ts e)) → IsInstance ts' 21 z (picked ts params) (Some j)
+pub entry_some : (ts ts' : List Tree) (params : List ℕ) (z e j : ℕ) → ¬ (z ≡ 0) → z ≤ length params → e ≡ get_or params (z - 1) 0 → HasTree ts' j (about_entry (picked ts params) z (tree_at ts e)) → IsInstance ts' 21 z (picked ts params) (Some j)
 entry_some ts ts' params z e j n l q h =
     let m : z - 1 < length params = omega (arith, n) in
     (about_entry (picked ts params) z (tree_at ts e), entry_row z (picked ts params) (tree_at ts e) n (omega (arith, length-picked ts params)) (picked-read ts params (z - 1) e m q), h)
@@ -93,7 +93,10 @@ text_form ts i n h e =
   where
     text : (ns : List ℕ) → is_text ns ≡ true → is_text (length (after_first ns) ∷ after_first ns) ≡ true
     text [] h = cc
-    text (m ∷ ns) h = let a = and_parts _ _ h in and_from _ _ (grind (arith, nat_tests)) a.1
+    text (m ∷ ns) h = and_from (nat_eq (length ns) (length ns)) (are_bytes ns) (same (length ns)) (and_parts (nat_eq m (length ns)) (are_bytes ns) h).1
+
+    same : (n : ℕ) → nat_eq n n ≡ true
+    same n = grind (arith, nat_tests)
 
 head_is : (ts : List Tree) (i h : ℕ) → HasHead ts i h → kind_number (kind_of (tree_at ts i)) ≡ h
 head_is ts i h a =
@@ -131,7 +134,7 @@ literal : (ts : List Tree) (i h : ℕ) → HasHead ts i h → (h ≡ 2) ⊎ (h �
 literal ts i h a (inl e) = (Plain Num, refl, sym e, number_form ts i a.node a.has (a.head ∙ e))
 literal ts i h a (inr e) = (Plain Str, refl, sym e, text_form ts i a.node a.has (a.head ∙ e))
 
-pub apart_by_index : (ts : List Tree) (l m h : ℕ) (b : Bool) → IsDistinct ts → l < length ts → m < length ts → HasHead ts l h → HasHead ts m h → (h ≡ 2) ⊎ (h ≡ 3) → (IsTrue b ↔ (l ≡ m)) → not b ≡ are_apart (tree_at ts l) (tree_at ts m)
+apart_by_index : (ts : List Tree) (l m h : ℕ) (b : Bool) → IsDistinct ts → l < length ts → m < length ts → HasHead ts l h → HasHead ts m h → (h ≡ 2) ⊎ (h ≡ 3) → (IsTrue b ↔ (l ≡ m)) → not b ≡ are_apart (tree_at ts l) (tree_at ts m)
 apart_by_index ts l m h b d p q a c o w =
     let x = literal ts l h a o in
     let y = literal ts m h c o in
@@ -142,7 +145,7 @@ apart_by_index ts l m h b d p q a c o w =
     go (inl e) = (number_form ts m c.node c.has (c.head ∙ e)).kind ∙ sym (number_form ts l a.node a.has (a.head ∙ e)).kind
     go (inr e) = (text_form ts m c.node c.has (c.head ∙ e)).kind ∙ sym (text_form ts l a.node a.has (a.head ∙ e)).kind
 
-two_params : (params : List ℕ) (l m : ℕ) → length params ≡ 2 → l ≡ get_or params 0 l → m ≡ get_or params 1 m → params ≡ l ∷ m ∷ []
+two_params : (params : List ℕ) (l m : ℕ) → length params ≡ 2 → l ≡ get_or params 0 0 → m ≡ get_or params 1 0 → params ≡ l ∷ m ∷ []
 two_params [] l m n e f = absurd (omega arith)
 two_params (x ∷ []) l m n e f = absurd (omega arith)
 two_params (x ∷ y ∷ []) l m n e f = λ i. sym e i ∷ sym f i ∷ []
@@ -152,7 +155,7 @@ difference_made : (ts ts' : List Tree) (l m j : ℕ) → are_apart (tree_at ts l
 unfolding kind_at kind_table
 difference_made ts ts' l m j a h = (not_ (eq_ (tree_at ts l) (tree_at ts m)), ap (λ (v : Bool). cond v (Some (not_ (eq_ (tree_at ts l) (tree_at ts m)))) None) a, h)
 
-pub literals_some : (ts ts' : List Tree) (params : List ℕ) (l m j : ℕ) (b : Bool) → length params ≡ 2 → l ≡ get_or params 0 l → m ≡ get_or params 1 m → b ≡ are_apart (tree_at ts l) (tree_at ts m) → b ≡ true → HasTree ts' j (last (trees_from (picked ts params) (cells_of DIFFERENCE))) → IsInstance ts' 22 0 (picked ts params) (Some j)
+pub literals_some : (ts ts' : List Tree) (params : List ℕ) (l m j : ℕ) (b : Bool) → length params ≡ 2 → l ≡ get_or params 0 0 → m ≡ get_or params 1 0 → b ≡ are_apart (tree_at ts l) (tree_at ts m) → b ≡ true → HasTree ts' j (last (trees_from (picked ts params) (cells_of DIFFERENCE))) → IsInstance ts' 22 0 (picked ts params) (Some j)
 literals_some ts ts' params l m j b n el em a t h =
     let e = two_params params l m n el em in
     subst (λ ps. IsInstance ts' 22 0 (picked ts ps) (Some j)) (sym e) (difference_made ts ts' l m j (sym a ∙ t) (subst (λ ps. HasTree ts' j (last (trees_from (picked ts ps) (cells_of DIFFERENCE)))) e h))
@@ -160,7 +163,7 @@ literals_some ts ts' params l m j b n el em a t h =
 alike : (ts ts' : List Tree) (l m : ℕ) → are_apart (tree_at ts l) (tree_at ts m) ≡ false → IsInstance ts' 22 0 (picked ts (l ∷ m ∷ [])) None
 alike ts ts' l m a = λ i e c. let q : row22 0 (picked ts (l ∷ m ∷ [])) ≡ None = ap (λ (v : Bool). cond v (Some (not_ (eq_ (tree_at ts l) (tree_at ts m)))) None) a in let e' : row22 0 (picked ts (l ∷ m ∷ [])) ≡ Some i = e in cc
 
-pub literals_alike : (ts ts' : List Tree) (params : List ℕ) (l m : ℕ) (b : Bool) → length params ≡ 2 → l ≡ get_or params 0 l → m ≡ get_or params 1 m → b ≡ are_apart (tree_at ts l) (tree_at ts m) → b ≡ false → IsInstance ts' 22 0 (picked ts params) None
+pub literals_alike : (ts ts' : List Tree) (params : List ℕ) (l m : ℕ) (b : Bool) → length params ≡ 2 → l ≡ get_or params 0 0 → m ≡ get_or params 1 0 → b ≡ are_apart (tree_at ts l) (tree_at ts m) → b ≡ false → IsInstance ts' 22 0 (picked ts params) None
 literals_alike ts ts' params l m b n el em a t = subst (λ ps. IsInstance ts' 22 0 (picked ts ps) None) (sym (two_params params l m n el em)) (alike ts ts' l m (sym a ∙ t))
 
 pub literals_other : (ts : List Tree) (es : List Tree) (z : ℕ) → (¬ (z ≡ 0)) ⊎ (¬ (length es ≡ 2)) → IsInstance ts 22 z es None
@@ -177,3 +180,9 @@ no_schema ts k z es h = λ i e c. let q : ◌≡◌ {A = Option Tree} None (Some
     past : (k : ℕ) → (k ≡ 0) ⊎ (22 < k) → instance_of k z es ≡ None
     past k (inl o) = ap (λ j. instance_of j z es) o
     past k (inr l) = ap (λ (r : Row). r z es) (row_at-get rows k ∙ get_or_past rows k no_row (omega arith))
+
+pub apart_same : (ts : List Tree) (l m : ℕ) → l ≡ m → false ≡ are_apart (tree_at ts l) (tree_at ts m)
+apart_same ts l m e = sym (not_apart (tree_at ts l) (tree_at ts m) (λ q. apart_differs (tree_at ts l) (tree_at ts m) q (ap (tree_at ts) e)))
+
+pub apart_yes : (ts : List Tree) (l m h h' : ℕ) → IsDistinct ts → l < length ts → m < length ts → HasHead ts l h → HasHead ts m h' → h ≡ h' → (h ≡ 2) ⊎ (h ≡ 3) → ¬ (l ≡ m) → true ≡ are_apart (tree_at ts l) (tree_at ts m)
+apart_yes ts l m h h' d p q a c e o n = apart_by_index ts l m h false d p q a (subst (λ k. HasHead ts m k) (sym e) c) o ((λ t. absurd (false≢true t)), (λ k. absurd (n k)))

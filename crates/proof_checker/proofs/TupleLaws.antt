@@ -8,7 +8,7 @@ use Rattle.core_expr.specs.Nodes.{AreBelow, picked, node_make, node_fits, tree_o
 use Rattle.seq_calculus.specs.Schemas.{join, join_from, equal_pairs, equals_each, about_enumeration, about_tuples, about_entry, tuple_meaning, are_apart}
 use Rattle.seq_calculus.proofs.Listed.{pairs_step, pairs_all, join_step, join_all}
 use Rattle.term_bank.specs.Banks.{Extends, IsDistinct, HasTree, HasNode, tree_at}
-use Rattle.term_bank.proofs.TableLaws.{length-picked, AreBelow-at}
+use Rattle.term_bank.proofs.TableLaws.{length-picked, AreBelow-at, AreBelow-more}
 use Rattle.term_bank.proofs.InstLaws.{Extends-trans}
 use Rattle.proof_checker.specs.Tables.{ArePlaced, cells_of}
 use Rattle.proof_checker.specs.Schemas.{last}
@@ -18,17 +18,17 @@ use Rattle.proof_checker.proofs.TurnLaws.{picked-at, picked-drop}
 use Rattle.proof_checker.proofs.NodeLaws.{picked-same, placed_push}
 
 -- a tree of a list of trees
-pub picked-read : (ts : List Tree) (is : List ℕ) (i a : ℕ) → i < length is → a ≡ get_or is i a → tree_at ts a ≡ get_or (picked ts is) i (tree_at ts a)
+pub picked-read : (ts : List Tree) (is : List ℕ) (i a : ℕ) → i < length is → a ≡ get_or is i 0 → tree_at ts a ≡ get_or (picked ts is) i (tree_at ts a)
 picked-read ts [] i a l e = absurd (omega arith)
 picked-read ts (j ∷ is) zero a l e = ap (tree_at ts) e
 picked-read ts (j ∷ is) (suc i) a l e = picked-read ts is i a (omega arith) e
 
-pub below_later : (ts ts' : List Tree) (is : List ℕ) (i a : ℕ) → Extends ts ts' → AreBelow (length ts) is → i < length is → a ≡ get_or is i a → a < length ts'
+pub below_later : (ts ts' : List Tree) (is : List ℕ) (i a : ℕ) → Extends ts ts' → AreBelow (length ts) is → i < length is → a ≡ get_or is i 0 → a < length ts'
 below_later ts ts' [] i a x b l e = absurd (omega arith)
 below_later ts ts' (j ∷ is) zero a x b l e = let m = longer ts ts' x in let k : j < length ts = b.0 in omega arith
 below_later ts ts' (j ∷ is) (suc i) a x b l e = below_later ts ts' is i a x b.1 (omega arith) e
 
-pub equation_step : (ts ts1 ts2 : List Tree) (left right out out' : List ℕ) (i a b k : ℕ) → length left ≡ length right → i < length left → AreBelow (length ts) left → AreBelow (length ts) right → Extends ts ts1 → Extends ts1 ts2 → a ≡ get_or left i a → b ≡ get_or right i b → HasTree ts2 k (eq_ (tree_at ts1 a) (tree_at ts1 b)) → out' ≡ out ++ k ∷ [] → ArePlaced ts1 (equal_pairs (take i (picked ts left)) (take i (picked ts right))) out → ArePlaced ts2 (equal_pairs (take (i + 1) (picked ts left)) (take (i + 1) (picked ts right))) out'
+pub equation_step : (ts ts1 ts2 : List Tree) (left right out out' : List ℕ) (i a b k : ℕ) → length left ≡ length right → i < length left → AreBelow (length ts) left → AreBelow (length ts) right → Extends ts ts1 → Extends ts1 ts2 → a ≡ get_or left i 0 → b ≡ get_or right i 0 → HasTree ts2 k (eq_ (tree_at ts1 a) (tree_at ts1 b)) → out' ≡ out ++ k ∷ [] → ArePlaced ts1 (equal_pairs (take i (picked ts left)) (take i (picked ts right))) out → ArePlaced ts2 (equal_pairs (take (i + 1) (picked ts left)) (take (i + 1) (picked ts right))) out'
 equation_step ts ts1 ts2 left right out out' i a b k n l bl br x y ea eb h e p =
     let la : a < length ts = below_later ts ts left i a ([], sym (append-nil ts)) bl l ea in
     let m : i < length right = omega arith in
@@ -47,7 +47,7 @@ equations_end ts ts' left right out i n l p = record {
 }
 
 -- joining
-pub joined_step : (op : Tree → Tree → Tree) (ts ts1 ts2 : List Tree) (items : List ℕ) (i a j k : ℕ) → i < length items → AreBelow (length ts) items → Extends ts ts1 → a ≡ get_or items i a → (t : Tree) → HasTree ts1 j (join_from op t (take i (picked ts items))) → HasTree ts2 k (op (tree_at ts1 j) (tree_at ts1 a)) → HasTree ts2 k (join_from op t (take (i + 1) (picked ts items)))
+pub joined_step : (op : Tree → Tree → Tree) (ts ts1 ts2 : List Tree) (items : List ℕ) (i a j k : ℕ) → i < length items → AreBelow (length ts) items → Extends ts ts1 → a ≡ get_or items i 0 → (t : Tree) → HasTree ts1 j (join_from op t (take i (picked ts items))) → HasTree ts2 k (op (tree_at ts1 j) (tree_at ts1 a)) → HasTree ts2 k (join_from op t (take (i + 1) (picked ts items)))
 joined_step op ts ts1 ts2 items i a j k l b x e t h w = record {
   within = w.within;
   tree =
@@ -55,9 +55,9 @@ joined_step op ts ts1 ts2 items i a j k l b x e t h w = record {
       join_step op t (picked ts items) i (tree_at ts a) (tree_at ts1 j) (tree_at ts2 k) (omega (arith, length-picked ts items)) (picked-read ts items i a l e) h.tree (w.tree ∙ ap (op (tree_at ts1 j)) (tree-extend ts ts1 a x la));
 }
 
-pub joined_end : (op : Tree → Tree → Tree) (none : Tree) (ts ts1 : List Tree) (items : List ℕ) (i j : ℕ) → 0 < length items → length items - 1 ≤ i → HasTree ts1 j (join_from op (tree_at ts (get_or items 0 0)) (take i (picked ts (drop 1 items)))) → HasTree ts1 j (join op none (picked ts items))
-joined_end op none ts ts1 [] i j l m h = absurd (omega arith)
-joined_end op none ts ts1 (x ∷ items) i j l m h = record { within = h.within; tree = join_all op none (tree_at ts x) (tree_at ts1 j) (picked ts items) i (omega (arith, length-picked ts items)) h.tree }
+pub joined_all : (op : Tree → Tree → Tree) (none : Tree) (ts ts1 : List Tree) (items rest : List ℕ) (a j : ℕ) → 0 < length items → a ≡ get_or items 0 0 → rest ≡ drop 1 items → HasTree ts1 j (join_from op (tree_at ts a) (picked ts rest)) → HasTree ts1 j (join op none (picked ts items))
+joined_all op none ts ts1 [] rest a j l e r h = absurd (omega arith)
+joined_all op none ts ts1 (x ∷ items) rest a j l e r h = coe 0 1 (i. HasTree ts1 j (join_from op (tree_at ts (e i)) (picked ts (r i)))) h
 
 pub no_items : (op : Tree → Tree → Tree) (none : Tree) (ts : List Tree) (items : List ℕ) → length items ≡ 0 → join op none (picked ts items) ≡ none
 no_items op none ts [] e = refl
@@ -96,3 +96,17 @@ entry_made ts ts1 ts2 ts3 tuple numeral entry k number es l x y ht hn h =
     let q : tree_at ts2 numeral ≡ num_ 0 number = hn.tree in
     let r : tree_at ts2 entry ≡ tree_at ts entry = tree-extend ts ts2 entry (Extends-trans ts ts1 ts2 x y) l in
     record { within = h.within; tree = h.tree ∙ (λ i. eq_ (apply_ (p i) (q i)) (r i)) }
+
+-- what the equality of two tuples means
+pub meaning_alike : (ls rs : List Tree) → length ls ≡ length rs → tuple_meaning ls rs ≡ join (λ a b. and_ a b) true_ (equal_pairs ls rs)
+meaning_alike ls rs e = let t : nat_eq (length ls) (length rs) ≡ true = grind (arith, nat_tests) in ap (λ b. cond b (join (λ a b. and_ a b) true_ (equal_pairs ls rs)) false_) t
+
+pub meaning_apart : (ls rs : List Tree) → ¬ (length ls ≡ length rs) → tuple_meaning ls rs ≡ false_
+meaning_apart ls rs n = let f : nat_eq (length ls) (length rs) ≡ false = grind (arith, nat_tests) in ap (λ b. cond b (join (λ a b. and_ a b) true_ (equal_pairs ls rs)) false_) f
+
+pub below_replicate : (n k t : ℕ) → t < n → AreBelow n (replicate k t)
+below_replicate n zero t l = tt
+below_replicate n (suc k) t l = (l, below_replicate n k t l)
+
+pub below_grown : (ts ts' : List Tree) (is : List ℕ) → Extends ts ts' → AreBelow (length ts) is → AreBelow (length ts') is
+below_grown ts ts' is x b = AreBelow-more (length ts) (length ts') is (longer ts ts' x) b

@@ -48,12 +48,12 @@ schema_plans ts k z es g d (Some j) h = ((h.0, h.1), ap (λ o. schema_premise o 
 schema_plans ts k z es g d None h = λ ps f q. h f.0 f.1 (first_closed ps f.0 g d (subst (λ o. AreCorrect ps (schema_premise o g d)) f.1 q))
 
 -- weakening
-picked-take : (ts : List Tree) (n : ℕ) (is : List ℕ) → picked ts (take n is) ≡ take n (picked ts is)
+pub picked-take : (ts : List Tree) (n : ℕ) (is : List ℕ) → picked ts (take n is) ≡ take n (picked ts is)
 picked-take ts zero is = refl
 picked-take ts (suc n) [] = refl
 picked-take ts (suc n) (i ∷ is) = ap (λ us. tree_at ts i ∷ us) (picked-take ts n is)
 
-picked-drop : (ts : List Tree) (n : ℕ) (is : List ℕ) → picked ts (drop n is) ≡ drop n (picked ts is)
+pub picked-drop : (ts : List Tree) (n : ℕ) (is : List ℕ) → picked ts (drop n is) ≡ drop n (picked ts is)
 picked-drop ts zero is = refl
 picked-drop ts (suc n) [] = refl
 picked-drop ts (suc n) (i ∷ is) = picked-drop ts n is

@@ -8,6 +8,7 @@ use Rattle.core_expr.specs.Nodes.{Node, picked, trees_from}
 use Rattle.proof_checker.specs.Tables.{ArePlaced, cells_of}
 use Rattle.term_bank.specs.Banks.{HasTree, HasNode}
 use Rattle.seq_calculus.specs.Schemas.{instance_of}
+use Rattle.proof_checker.specs.declared.nodes.Cell.{Cell}
 use Rattle.proof_checker.specs.declared.pattern.Opening.{Opening}
 use Rattle.proof_checker.specs.declared.pattern.Opening.TheVariants.{Nothing, Chosen, Last}
 use Rattle.proof_checker.specs.declared.pattern.TheConstants.{COUNTS, SUBJECTS, CELLS}
@@ -23,9 +24,12 @@ pub record Pattern : Type 0 where
 abbrev pub opening_at : ℕ → Opening
 opening_at i = cond (nat_eq i 5) Last (cond (nat_eq i 14) Last (cond (nat_eq i 10) Chosen Nothing))
 
+abbrev pub cell_list : ℕ → List Cell
+cell_list i = get_or (map (λ r. r.now) CELLS) i []
+
 -- the pattern of the schema i + 2
 abbrev pub pattern_at : ℕ → Pattern
-pattern_at i = record { count = get_or COUNTS i 0; opening = opening_at i; subject = get_or SUBJECTS i 0; nodes = cells_of (get_or (map (λ r. r.now) CELLS) i []) }
+pattern_at i = record { count = get_or COUNTS i 0; opening = opening_at i; subject = get_or SUBJECTS i 0; nodes = cells_of (cell_list i) }
 
 -- the instance that a formula has: of the last parameter by the first, or of a body by what satisfies it
 abbrev pub opened : Opening → List Tree → List Tree

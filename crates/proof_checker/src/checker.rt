@@ -49,12 +49,7 @@ pub fn check(alloc: Global, proof: &SeqProof, canon: &Canon) -> Result<bool, Mem
     let mut left = Side::new(alloc);
     put_facts(&mut bank, alloc, &mut left, canon.facts.as_slice())?;
     let goal = bank.intern(alloc, &canon.goal)?;
-    run(
-        &mut bank,
-        alloc,
-        proof.steps(),
-        places.as_slice(),
-        &mut left,
-        goal,
-    )
+    let steps = proof.steps();
+    let checked = run(&mut bank, alloc, steps, places.as_slice(), &mut left, goal)?;
+    Ok(checked)
 }

@@ -77,6 +77,14 @@ fn add_cell(bank: &mut Bank, alloc: Global, places: &[u64], cell: Cell) -> Resul
     }
 }
 
+/// The node at this place.
+fn cell_at(cells: &[Cell], i: u64) -> Cell
+    requires { i < length cells.now }
+    ensures { result ≡ get_or cells.now i result }
+{
+    cells[i as usize]
+}
+
 /// Adds the trees of nodes, each over those before it.
 pub fn add_cells(
     bank: &mut Bank,
@@ -91,7 +99,7 @@ pub fn add_cells(
         (trees_from (picked bank.old places.old.items) (cells_of cells.now)) places.new.items) }
 {
     for i in 0..cells.len() {
-        let cell = cells[i];
+        let cell = cell_at(cells, i as u64);
         let place = add_cell(bank, alloc, places.as_slice(), cell)?;
         places.push(place)?;
     }

@@ -4,7 +4,7 @@ ghost use Rattle.core_expr.specs.Put.{IsScoped, inst};
 ghost use Rattle.core_expr.specs.Nodes.{AreBelow, AreNodes, picked, trees_from};
 ghost use Rattle.term_bank.specs.Banks.{Extends, HasTree, tree_at};
 ghost use Rattle.proof_checker.specs.Tables.{cells_of, ArePlaced};
-ghost use Rattle.proof_checker.specs.Schemas.{pattern_at, opening_at, opened, IsOpen, HasPattern, AreOpened, takes_opening, IsBuilt};
+ghost use Rattle.proof_checker.specs.Schemas.{pattern_at, cell_list, opening_at, opened, IsOpen, HasPattern, AreOpened, takes_opening, IsBuilt};
 
 use crate::nodes::Cell::{Leaf, One, Three, Two};
 use crate::nodes::{Cell, add_cells};
@@ -203,7 +203,7 @@ fn subject_at(i: u64) -> u64
 
 /// The nodes.
 fn cells_at(i: u64) -> &'static [Cell]
-    ensures { cells_of result.now ≡ (pattern_at i).nodes }
+    ensures { result.now ≡ cell_list i }
 {
     match CELLS.get(i as usize) {
         Some(cells) => *cells,
@@ -269,6 +269,7 @@ fn add_opening(
 }
 
 /// The trees of a pattern with these parameters; None where they have other loose variables than its instance may have.
+#[tactic(auto, unfolding(core_expr::specs::Heads::kind_at, core_expr::specs::Heads::kind_table))]
 fn build(bank: &mut Bank, alloc: Global, i: u64, params: &[u64]) -> Result<Option<Vec<u64>>, Memory>
     requires pattern { i < 18 }
     requires params { AreBelow (length bank.old) params.now }

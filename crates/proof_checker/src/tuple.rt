@@ -65,6 +65,31 @@ fn equations(
     Ok(out)
 }
 
+/// What follows the first, joined to it from the left.
+fn join_after(
+    bank: &mut Bank,
+    alloc: Global,
+    connective: u64,
+    first: u64,
+    rest: &[u64],
+) -> Result<u64, Memory>
+    requires connective_fits { IsTrue (node_fits connective [] 2) }
+    requires first { first < length bank.old }
+    requires rest { AreBelow (length bank.old) rest.now }
+    ensures extends { Extends bank.old bank.new }
+    ensures ok { IfOk result (λ k. HasTree bank.new k
+        (join_from (λ a b. node_make connective [] (a ∷ b ∷ [])) (tree_at bank.old first)
+        (picked bank.old rest.now))) }
+{
+    let mut joined = first;
+    for i in 0..rest.len() {
+        let item = rest[i];
+        let next = bank.make(alloc, connective, &[], &[joined, item])?;
+        joined = next;
+    }
+    Ok(joined)
+}
+
 /// The items joined from the left, one by itself, or the head `none` where there are no items.
 fn join(
     bank: &mut Bank,
@@ -85,10 +110,8 @@ fn join(
         let alone = bank.make(alloc, none, &[], &[])?;
         return Ok(alone);
     }
-    let mut joined = items[0];
-    for item in &items[1..] {
-        joined = bank.make(alloc, connective, &[], &[joined, *item])?;
-    }
+    let first = items[0];
+    let joined = join_after(bank, alloc, connective, first, &items[1..])?;
     Ok(joined)
 }
 
@@ -268,11 +291,21 @@ fn are_apart(bank: &Bank, l: u64, m: u64) -> bool
     ensures { result ≡ are_apart (tree_at bank.now l) (tree_at bank.now m) }
 {
     let _count = bank.count();
-    let head = head_at(bank, l);
-    if head != 2 && head != 3 {
+    if l == m {
         return false;
     }
-    head == head_at(bank, m) && l != m
+    let head = head_at(bank, l);
+    let other = head_at(bank, m);
+    if head != other {
+        return false;
+    }
+    if head == 2 {
+        return true;
+    }
+    if head == 3 {
+        return true;
+    }
+    false
 }
 
 /// The instance about two literals.
@@ -293,7 +326,9 @@ pub fn literals(
     if params.len() != 2 {
         return Ok(None);
     }
-    if !are_apart(bank, params[0], params[1]) {
+    let (first, second) = (params[0], params[1]);
+    let apart = are_apart(bank, first, second);
+    if !apart {
         return Ok(None);
     }
     let formula = finish(bank, alloc, params, &DIFFERENCE)?;

@@ -6,7 +6,7 @@ use Rattle.proof_checker.proofs.checker.put_facts.Goals as goal
 pub intern-requires : goal.intern-requires
 intern-requires c =
     let l : length c.args.facts.now - 1 - c.loop-i.i < length c.args.facts.now = omega (arith, c.loop-i-test.true) in
-    canonical_at c.args.facts.now (length c.args.facts.now - 1 - c.loop-i.i) _ c.requires.canonical l c.index-facts-facts.is
+    record { canonical = canonical_at c.args.facts.now (length c.args.facts.now - 1 - c.loop-i.i) _ c.requires.canonical l c.index-facts-facts.is }
 
 pub loop-i-preserved : goal.loop-i-preserved
 loop-i-preserved c =

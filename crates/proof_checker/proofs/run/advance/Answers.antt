@@ -24,7 +24,7 @@ pub returns-in_ok-weakened-in-Weak : goal.returns-in_ok-weakened-in-Weak
 returns-in_ok-weakened-in-Weak c =
     let es = picked c.args.bank.now c.args.operands.now in
     let e : of_lists c.as_slice-numbers.result.now es ≡ rule_of c.args.step.now.rule c.args.step.now.numbers es = ap (λ (ns : List ℕ). of_lists ns es) c.as_slice-numbers.ensures ∙ sym (named_as c.args.step.now es name.Weak (sym c.name_of.ensures ∙ c.in-Weak.is)) in
-    subst (λ (r : Rule). Moves c.args.bank.now c.args.bank.now r c.args.left.now c.args.right.now c.weakened.new.left c.weakened.new.right _) e c.in_ok-weakened.ensures
+    subst (λ (r : Rule). Moves c.args.bank.now c.args.bank.now r c.args.left.now c.args.right.now c.weakened.new.left c.weakened.new.right _) e c.in_ok-weakened-in-Weak.ensures
 
 pub returns-in_ok-found-in-Schema : goal.returns-in_ok-found-in-Schema
 returns-in_ok-found-in-Schema c =
@@ -32,9 +32,9 @@ returns-in_ok-found-in-Schema c =
     let es = picked ts c.args.operands.now in
     let k : c.number_at-schema.result ≡ get_or c.args.step.now.numbers 0 0 = c.number_at-schema.ensures ∙ ap (λ (ns : List ℕ). get_or ns 0 0) c.as_slice-numbers.ensures in
     let z : c.number_at-number.result ≡ get_or c.args.step.now.numbers 1 0 = c.number_at-number.ensures ∙ ap (λ (ns : List ℕ). get_or ns 1 0) c.as_slice-numbers.ensures in
-    let h : IsInstance c.instance.new.bank (get_or c.args.step.now.numbers 0 0) (get_or c.args.step.now.numbers 1 0) es c.in_ok-found.found = coe 0 1 (i. IsInstance c.instance.new.bank (k i) (z i) es c.in_ok-found.found) c.in_ok-found.ensures.ok in
+    let h : IsInstance c.instance.new.bank (get_or c.args.step.now.numbers 0 0) (get_or c.args.step.now.numbers 1 0) es c.in_ok-found-in-Schema.found = coe 0 1 (i. IsInstance c.instance.new.bank (k i) (z i) es c.in_ok-found-in-Schema.found) c.in_ok-found-in-Schema.ensures.ok in
     rw c.left_plan.ensures (subst (λ (r : Rule). Moves ts c.instance.new.bank r c.args.left.now c.args.right.now c.args.left.now c.args.right.now _) (sym (named_as c.args.step.now es name.Schema (sym c.name_of.ensures ∙ c.in-Schema.is)))
-    (moves_planned ts c.instance.new.bank (Schema (get_or c.args.step.now.numbers 0 0) (get_or c.args.step.now.numbers 1 0) es) c.args.left.now c.args.right.now _ c.instance.ensures.extends c.requires.sides c.requires.left_base c.requires.right_base (schema_plans c.instance.new.bank (get_or c.args.step.now.numbers 0 0) (get_or c.args.step.now.numbers 1 0) es _ _ c.in_ok-found.found h)))
+    (moves_planned ts c.instance.new.bank (Schema (get_or c.args.step.now.numbers 0 0) (get_or c.args.step.now.numbers 1 0) es) c.args.left.now c.args.right.now _ c.instance.ensures.extends c.requires.sides c.requires.left_base c.requires.right_base (schema_plans c.instance.new.bank (get_or c.args.step.now.numbers 0 0) (get_or c.args.step.now.numbers 1 0) es _ _ c.in_ok-found-in-Schema.found h)))
 
 pub plan-requires-clause-count : goal.plan-requires-clause-count
 plan-requires-clause-count c = c.requires.count ∙ plain_count c.args.step.now _ c.requires.form (sym c.name_of.ensures ∙ c.in-Plain.is)
@@ -44,4 +44,4 @@ returns-in_ok-plan-in-Plain c =
     let ts = c.args.bank.now in
     let es = picked ts c.args.operands.now in
     subst (λ (r : Rule). Moves ts c.plan.new.bank r c.args.left.now c.args.right.now c.args.left.now c.args.right.now _) (plain_numbers c.in-Plain.rule c.args.step.now.numbers es ∙ sym (named_as c.args.step.now es (name.Plain c.in-Plain.rule) (sym c.name_of.ensures ∙ c.in-Plain.is)))
-    (moves_planned ts c.plan.new.bank (plain_reading c.in-Plain.rule [] es) c.args.left.now c.args.right.now _ c.plan.ensures.extends c.requires.sides c.requires.left_base c.requires.right_base c.in_ok-plan.ensures.ok)
+    (moves_planned ts c.plan.new.bank (plain_reading c.in-Plain.rule [] es) c.args.left.now c.args.right.now _ c.plan.ensures.extends c.requires.sides c.requires.left_base c.requires.right_base c.in_ok-plan-in-Plain.ensures.ok)

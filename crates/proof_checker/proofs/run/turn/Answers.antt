@@ -17,13 +17,13 @@ pub fetch-requires : goal.fetch-requires
 fetch-requires c = rw c.as_slice.ensures ((this_step (length c.args.places.now) c.args.steps.now c.args.task.step c.step_at-step.result.now c.requires.steps c.requires.top.task.step c.step_at-step.ensures).exprs)
 
 pub put_step-requires-clause-sides : goal.put_step-requires-clause-sides
-put_step-requires-clause-sides c = let e : AreEntered c.args.bank.now c.args.task c.args.left.now.trail c.args.right.now.trail c.enter-entered.new.left c.enter-entered.new.right = c.in_ok-entered.ensures.yes (search (rules, c.if-not-entered.false)) in e.sides
+put_step-requires-clause-sides c = let e : AreEntered c.args.bank.now c.args.task c.args.left.now.trail c.args.right.now.trail c.enter.new.left c.enter.new.right = c.in_ok-entered.ensures.yes (search (rules, c.if-not-entered.false)) in e.sides
 
 pub put_step-requires-clause-left_base : goal.put_step-requires-clause-left_base
-put_step-requires-clause-left_base c = let e : AreEntered c.args.bank.now c.args.task c.args.left.now.trail c.args.right.now.trail c.enter-entered.new.left c.enter-entered.new.right = c.in_ok-entered.ensures.yes (search (rules, c.if-not-entered.false)) in e.left_base
+put_step-requires-clause-left_base c = let e : AreEntered c.args.bank.now c.args.task c.args.left.now.trail c.args.right.now.trail c.enter.new.left c.enter.new.right = c.in_ok-entered.ensures.yes (search (rules, c.if-not-entered.false)) in e.left_base
 
 pub put_step-requires-clause-right_base : goal.put_step-requires-clause-right_base
-put_step-requires-clause-right_base c = let e : AreEntered c.args.bank.now c.args.task c.args.left.now.trail c.args.right.now.trail c.enter-entered.new.left c.enter-entered.new.right = c.in_ok-entered.ensures.yes (search (rules, c.if-not-entered.false)) in e.right_base
+put_step-requires-clause-right_base c = let e : AreEntered c.args.bank.now c.args.task c.args.left.now.trail c.args.right.now.trail c.enter.new.left c.enter.new.right = c.in_ok-entered.ensures.yes (search (rules, c.if-not-entered.false)) in e.right_base
 
 pub put_step-requires-clause-below : goal.put_step-requires-clause-below
 put_step-requires-clause-below c =
@@ -41,12 +41,12 @@ put_step-requires-clause-count c =
 
 pub returns-clause-yes : goal.returns-clause-yes
 returns-clause-yes c = λ h.
-    let e : AreEntered c.args.bank.now c.args.task c.args.left.now.trail c.args.right.now.trail c.enter-entered.new.left c.enter-entered.new.right = c.in_ok-entered.ensures.yes (search (rules, c.if-not-entered.false)) in
+    let e : AreEntered c.args.bank.now c.args.task c.args.left.now.trail c.args.right.now.trail c.enter.new.left c.enter.new.right = c.in_ok-entered.ensures.yes (search (rules, c.if-not-entered.false)) in
     let o : c.as_slice-2.result.now ≡ gathered c.args.places.now c.step_at-step.result.now.exprs = search rules in
-    turn_yes c.args.bank.now c.put_step.new.bank c.args.places.now c.as_slice-2.result.now c.args.steps.now c.args.left.now.trail c.args.right.now.trail c.args.task c.step_at-step.result.now c.enter-entered.new.left c.enter-entered.new.right c.put_step.new.left c.put_step.new.right c.args.todo.now.items c.put_step.new.todo.items c.in_ok-put.put (record { steps = c.requires.steps; step_is = c.step_at-step.ensures; operands = o; top = c.requires.top }) e c.in_ok-put.ensures h
+    turn_yes c.args.bank.now c.put_step.new.bank c.args.places.now c.as_slice-2.result.now c.args.steps.now c.args.left.now.trail c.args.right.now.trail c.args.task c.step_at-step.result.now c.enter.new.left c.enter.new.right c.put_step.new.left c.put_step.new.right c.args.todo.now.items c.put_step.new.todo.items c.in_ok-put.put (record { steps = c.requires.steps; step_is = c.step_at-step.ensures; operands = o; top = c.requires.top }) e c.in_ok-put.ensures h
 
 pub returns-clause-no : goal.returns-clause-no
 returns-clause-no c = λ h k.
-    let e : AreEntered c.args.bank.now c.args.task c.args.left.now.trail c.args.right.now.trail c.enter-entered.new.left c.enter-entered.new.right = c.in_ok-entered.ensures.yes (search (rules, c.if-not-entered.false)) in
+    let e : AreEntered c.args.bank.now c.args.task c.args.left.now.trail c.args.right.now.trail c.enter.new.left c.enter.new.right = c.in_ok-entered.ensures.yes (search (rules, c.if-not-entered.false)) in
     let o : c.as_slice-2.result.now ≡ gathered c.args.places.now c.step_at-step.result.now.exprs = search rules in
-    turn_no c.args.bank.now c.put_step.new.bank c.args.places.now c.as_slice-2.result.now c.args.steps.now c.args.left.now.trail c.args.right.now.trail c.args.task c.step_at-step.result.now c.enter-entered.new.left c.enter-entered.new.right c.put_step.new.left c.put_step.new.right c.args.todo.now.items c.put_step.new.todo.items c.in_ok-put.put (record { steps = c.requires.steps; step_is = c.step_at-step.ensures; operands = o; top = c.requires.top }) e c.in_ok-put.ensures h k
+    turn_no c.args.bank.now c.put_step.new.bank c.args.places.now c.as_slice-2.result.now c.args.steps.now c.args.left.now.trail c.args.right.now.trail c.args.task c.step_at-step.result.now c.enter.new.left c.enter.new.right c.put_step.new.left c.put_step.new.right c.args.todo.now.items c.put_step.new.todo.items c.in_ok-put.put (record { steps = c.requires.steps; step_is = c.step_at-step.ensures; operands = o; top = c.requires.top }) e c.in_ok-put.ensures h k

@@ -1,4 +1,4 @@
-use Rattle.std.proofs.Common.{rules}
+use Rattle.std.proofs.Common.{◌≡◌, rules}
 use Rattle.proof_checker.proofs.tuple.finish.Goals as goal
 
 pub overflow_sub-len : goal.overflow_sub-len
