@@ -109,6 +109,9 @@ last_placed ts table values v l e a =
     let n : length values ≡ length table = sym (length-picked ts values) ∙ ap length a.trees in
     coe 0 1 (k. HasTree ts v (get_or table (n k - 1) true_)) (value_at ts table values (length values - 1) v b e a)
 
+pub formula_at : (ts : List Tree) (i : ℕ) (es : List Tree) (values : List ℕ) (v : ℕ) → i < 18 → length es ≡ (pattern_at i).count → IsBuilt ts (pattern_at i) es values → v ≡ get_or values (length values - 1) v → HasTree ts v (formula_in (pattern_at i) es)
+formula_at ts i es values v l c a e = let m = built_length ts i es values l c a in last_placed ts (trees_in (pattern_at i) es) values v (omega arith) e a.placed
+
 pub some_placed : (ts ts' : List Tree) (items values : List ℕ) (ns : List Node) → 0 < length items → ArePlaced ts' (trees_from (picked ts items) ns) values → 0 < length values
 some_placed ts ts' items values ns l a = omega (arith, length-picked ts' values, ap length a.trees, length-trees_from (picked ts items) ns, length-picked ts items)
 

@@ -91,12 +91,12 @@ text_form ts i n h e =
     let w : IsWellFormed (node Str (after_first n.numbers) end) = and_from _ _ (and_from (is_text (length (after_first n.numbers) ∷ after_first n.numbers)) true (text n.numbers g.0) refl) refl in
     subst (λ u. IsLiteral u (Plain Str)) (sym t) (record { formed = w; kind = refl })
   where
+    same : (n : ℕ) → nat_eq n n ≡ true
+    same n = grind (arith, nat_tests)
+
     text : (ns : List ℕ) → is_text ns ≡ true → is_text (length (after_first ns) ∷ after_first ns) ≡ true
     text [] h = cc
     text (m ∷ ns) h = and_from (nat_eq (length ns) (length ns)) (are_bytes ns) (same (length ns)) (and_parts (nat_eq m (length ns)) (are_bytes ns) h).1
-
-    same : (n : ℕ) → nat_eq n n ≡ true
-    same n = grind (arith, nat_tests)
 
 head_is : (ts : List Tree) (i h : ℕ) → HasHead ts i h → kind_number (kind_of (tree_at ts i)) ≡ h
 head_is ts i h a =

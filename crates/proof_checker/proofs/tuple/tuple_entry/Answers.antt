@@ -1,5 +1,5 @@
 use Rattle.std.proofs.Common.{refl, ◌≡◌, ◌≤◌, ◌<◌, ◌-◌, length, rules, arith, inl, inr}
-use Rattle.term_bank.proofs.TableLaws.{AreBelow-read}
+use Rattle.term_bank.proofs.TableLaws.{AreBelow-at}
 use Rattle.proof_checker.proofs.InstanceLaws.{entry_some, entry_none}
 use Rattle.proof_checker.proofs.tuple.tuple_entry.Goals as goal
 
@@ -11,8 +11,8 @@ returns-then-number-params-clause-ok c = entry_none c.args.bank.now c.args.bank.
 
 pub about_entry-requires-clause-entry : goal.about_entry-requires-clause-entry
 about_entry-requires-clause-entry c =
-    let l : c.args.number - 1 < length c.args.params.now = grind arith in
-    AreBelow-read (length c.args.bank.now) c.args.params.now (c.args.number - 1) _ c.requires.params l refl
+    let l : c.args.number - 1 < length c.args.params.now = omega (arith, c.if-number-eq0.false, c.if-number-params.false) in
+    AreBelow-at (length c.args.bank.now) c.args.params.now (c.args.number - 1) c.requires.params l
 
 pub returns-clause-ok : goal.returns-clause-ok
 returns-clause-ok c = entry_some c.args.bank.now c.about_entry.new.bank c.args.params.now c.args.number _ c.in_ok-formula.formula c.if-number-eq0.false c.if-number-params.false refl c.in_ok-formula.ensures.ok
