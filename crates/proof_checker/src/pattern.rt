@@ -1,5 +1,6 @@
 //! The schemas as nodes over their parameters.
-ghost use Rattle.std.specs.Prelude.{◌≡◌, ◌<◌, ◌++◌, ◌∷◌, [], length, IfOk, IfSome, IfNone, IsTrue};
+ghost use Rattle.std.specs.Prelude.{map, ◌≡◌, ◌<◌, ◌++◌, ◌∷◌, [], length, IfOk, IfSome, IfNone, IsTrue};
+ghost use Rattle.std.proofs.Common.{get_or};
 ghost use Rattle.core_expr.specs.Put.{IsScoped, inst};
 ghost use Rattle.core_expr.specs.Nodes.{AreBelow, AreNodes, picked, trees_from};
 ghost use Rattle.term_bank.specs.Banks.{Extends, HasTree, tree_at};
@@ -201,14 +202,21 @@ fn subject_at(i: u64) -> u64
     SUBJECTS[i as usize]
 }
 
+/// The nodes at this place of a table; none past its end.
+fn cells_in(table: &[&'static [Cell]], i: u64) -> &'static [Cell]
+    ensures { result.now ≡ get_or (map (λ r. r.now) table.now) i [] }
+{
+    match table.get(i as usize) {
+        Some(cells) => *cells,
+        None => &[],
+    }
+}
+
 /// The nodes.
 fn cells_at(i: u64) -> &'static [Cell]
     ensures { result.now ≡ cell_list i }
 {
-    match CELLS.get(i as usize) {
-        Some(cells) => *cells,
-        None => &[],
-    }
+    cells_in(&CELLS, i)
 }
 
 /// Adds the instance of a body, where the term is closed and the body has at most one loose variable.

@@ -1,4 +1,4 @@
-use Rattle.std.proofs.Common.{◌≡◌, ℕ, length, sym, subst, ap, ◌∙◌, List}
+use Rattle.std.proofs.Common.{◌≡◌, ℕ, length, map, sym, subst, ap, ◌∙◌, List}
 use Rattle.core_expr.specs.Nodes.{AreBelow, AreNodes, trees_of}
 use Rattle.seq_calculus.specs.Lists.{AreLists, AreSteps, node_of}
 use Rattle.seq_calculus.specs.declared.lists.ProofStep.{ProofStep}
@@ -25,5 +25,5 @@ run-requires-clause-left c = AreFormulas-extend c.put_facts.new.bank c.intern.ne
 pub returns : goal.returns
 returns c =
     let p = table_in c.add_table.new.bank c.args.proof.now c.nodes.result.now c.in_ok-places.places.items c.nodes.ensures.nodes c.in_ok-places.ensures.ok in
-    let q : ArePlaced c.add_table.new.bank (trees_of _) c.as_slice-2.result.now = rw c.as_slice-2.ensures.value p in
+    let q : ArePlaced c.add_table.new.bank (trees_of (map node_of c.args.proof.now.nodes)) c.as_slice-2.result.now = rw c.as_slice-2.ensures.value p in
     checked c.add_table.new.bank c.put_facts.new.bank c.intern.new.self c.args.proof.now c.as_slice-2.result.now c.put_facts.new.left c.args.canon.now.facts c.in_ok-goal.goal c.args.canon.now.goal c.in_ok-checked.checked q c.put_facts.ensures.extends c.intern.ensures.extends (rw (sym c.as_slice.ensures) c.in_ok-put_facts.ensures.ok) c.in_ok-goal.ensures.ok (rw c.steps-steps.ensures.steps at c.in_ok-checked.ensures)
