@@ -4,6 +4,7 @@ ghost use Rattle.std.proofs.Common.{get_or};
 ghost use Rattle.core_expr.specs.Put.{IsScoped, inst};
 ghost use Rattle.core_expr.specs.Nodes.{AreBelow, AreNodes, picked, trees_from};
 ghost use Rattle.term_bank.specs.Banks.{Extends, HasTree, tree_at};
+ghost use Rattle.proof_checker.specs.declared.pattern.Opening.TheVariants.{Chosen};
 ghost use Rattle.proof_checker.specs.Tables.{cells_of, ArePlaced};
 ghost use Rattle.proof_checker.specs.Schemas.{pattern_at, cell_list, opening_at, opened, IsOpen, HasPattern, AreOpened, takes_opening, IsBuilt};
 
@@ -247,6 +248,22 @@ fn add_instance(
     Ok(true)
 }
 
+/// Adds the instance of the first parameter by what it chooses.
+fn add_chosen(bank: &mut Bank, alloc: Global, values: &mut Vec<u64>) -> Result<bool, Memory>
+    requires values { AreBelow (length bank.old) values.old.items }
+    requires some { 0 < length values.old.items }
+    ensures extends { Extends bank.old bank.new }
+    ensures ok { IfOk result (λ b. AreOpened bank.old bank.new
+        (IsOpen Chosen (picked bank.old values.old.items))
+        (opened Chosen (picked bank.old values.old.items))
+        values.old.items values.new.items b) }
+{
+    let body = values[0];
+    let term = chosen(bank, alloc, body)?;
+    let added = add_instance(bank, alloc, values, body, term)?;
+    Ok(added)
+}
+
 /// Adds the instance that a formula has. False where it has other loose variables than it may have.
 fn add_opening(
     bank: &mut Bank,
@@ -264,11 +281,7 @@ fn add_opening(
 {
     match opening {
         Opening::Nothing => Ok(true),
-        Opening::Chosen => {
-            let body = values[0];
-            let term = chosen(bank, alloc, body)?;
-            add_instance(bank, alloc, values, body, term)
-        }
+        Opening::Chosen => add_chosen(bank, alloc, values),
         Opening::Last => {
             let (term, body) = (values[0], values[2]);
             add_instance(bank, alloc, values, body, term)
