@@ -1,0 +1,13 @@
+pub mod LatestLaws
+pub mod SideLaws
+pub mod PlanLaws
+pub mod ProofLaws
+pub mod RunLaws
+pub mod PatternLaws
+pub mod TurnLaws
+pub mod RuleLaws
+pub mod NodeLaws
+pub mod CheckLaws
+pub mod TupleLaws
+pub mod InstanceLaws
+pub mod BuildLaws
