@@ -1,0 +1,57 @@
+-- Reading lists of numbers from the left.
+use Rattle.std.specs.Prelude.{◌≡◌, ℕ, zero, suc, ◌≤◌, ◌<◌, Bool, true, false, List, [], ◌∷◌, ◌++◌, length, take}
+
+-- what a reader answers: a value and the numbers behind it, or the numbers from the first one on that no value goes on with
+pub data Answer (A : Type 0) : Type 0 where
+  took : A → List ℕ → Answer A
+  bad : List ℕ → Answer A
+
+abbrev pub Reader : Type 0 → Type 0
+Reader A = List ℕ → Answer A
+
+-- what is read behind a value
+abbrev pub after : {A B : Type 0} → Answer A → (A → Reader B) → Answer B
+after (took a l) f = f a l
+after (bad l) f = bad l
+
+-- the same, with the value seen another way
+abbrev pub seen : {A B : Type 0} → (A → B) → Answer A → Answer B
+seen f (took a l) = took (f a) l
+seen f (bad l) = bad l
+
+-- the number in front is read where a test was passed
+abbrev pub tested : Bool → ℕ → List ℕ → Answer ℕ
+tested true x l = took x l
+tested false x l = bad (x ∷ l)
+
+-- a number that passes a test
+abbrev pub number : (ℕ → Bool) → Reader ℕ
+number p [] = bad []
+number p (x ∷ l) = tested (p x) x l
+
+-- a value and then one that may depend on it, made into one
+abbrev pub pair : {A B C : Type 0} → (A → B → C) → Reader A → (A → Reader B) → Reader C
+pair mk r s l = after (r l) (λ a m. seen (mk a) (s a m))
+
+-- so many items, each by a reader for the state that the items before it lead to
+abbrev pub many : {S A : Type 0} → (S → Reader A) → (S → A → S) → ℕ → S → Reader (List A)
+many r next zero s = λ l. took [] l
+many r next (suc c) s = pair (λ a rest. a ∷ rest) (r s) (λ a. many r next c (next s a))
+
+-- each item is one of the state that the items before it lead to
+abbrev pub AllFrom : {S A : Type 0} → (S → A → Type 0) → (S → A → S) → S → List A → Type 0
+AllFrom V next s [] = Unit {0}
+AllFrom V next s (a ∷ rest) = V s a × AllFrom V next (next s a) rest
+
+-- so many items, each one of the state that the items before it lead to
+pub record AreFrom (S A : Type 0) (V : S → A → Type 0) (next : S → A → S) (c : ℕ) (s : S) (items : List A) : Type 0 where
+  pub count : length items ≡ c
+  pub all : AllFrom V next s items
+
+-- i is the first place such that no list of this kind goes on with the numbers up to and with it; the length where the list
+-- only ends early
+pub record IsFirstBad (P : List ℕ → Type 0) (l : List ℕ) (i : ℕ) : Type 0 where
+  pub none : ¬ P l
+  pub within : i ≤ length l
+  pub before : (rest : List ℕ) × P (take i l ++ rest)
+  pub at : i < length l → (rest : List ℕ) → ¬ P (take (suc i) l ++ rest)
