@@ -1,5 +1,7 @@
 -- Reading lists of numbers from the left.
-use Rattle.std.specs.Prelude.{◌≡◌, ℕ, zero, suc, ◌≤◌, ◌<◌, Bool, true, false, List, [], ◌∷◌, ◌++◌, length, take}
+use Rattle.std.specs.Prelude.{◌≡◌, ℕ, zero, suc, ◌≤◌, ◌<◌, Bool, true, false, List, [], ◌∷◌, ◌++◌, length, take, Option, Some, None, Result, Ok, Err}
+use Rattle.proof_text.specs.declared.cursor.Fault.{Fault}
+use Rattle.proof_text.specs.declared.cursor.Fault.TheVariants.{Bad, Memory}
 
 -- what a reader answers: a value and the numbers behind it, or the numbers from the first one on that no value goes on with
 pub data Answer (A : Type 0) : Type 0 where
@@ -47,6 +49,22 @@ AllFrom V next s (a ∷ rest) = V s a × AllFrom V next (next s a) rest
 pub record AreFrom (S A : Type 0) (V : S → A → Type 0) (next : S → A → S) (c : ℕ) (s : S) (items : List A) : Type 0 where
   pub count : length items ≡ c
   pub all : AllFrom V next s items
+
+-- the numbers but the first
+abbrev pub rest_of : List ℕ → List ℕ
+rest_of [] = []
+rest_of (x ∷ l) = l
+
+-- how many numbers are left at a fault
+abbrev pub fault_at : {A : Type 0} → Answer A → Option ℕ
+fault_at (took a l) = None
+fault_at (bad l) = Some (length l)
+
+-- the value with what is left behind it, or the fault, is what the reader answers, unless memory was not found
+abbrev pub Reads : {A : Type 0} → Result A Fault → Answer A → List ℕ → Type 0
+Reads (Ok a) x m = x ≡ took a m
+Reads (Err (Bad n)) x m = fault_at x ≡ Some n
+Reads (Err Memory) x m = Unit {0}
 
 -- i is the first place such that no list of this kind goes on with the numbers up to and with it; the length where the list
 -- only ends early
