@@ -3,7 +3,11 @@
 
 mod cursor;
 mod fault;
+mod free;
+mod operands;
 mod parts;
 mod shape;
+mod steps;
+mod table;
 
 pub use fault::TextFault;
