@@ -177,3 +177,23 @@ module _ (S A : Type 0) (V : S → A → Type 0) (w : A → List ℕ) (r : S →
       split : (items : List A) → AreFrom S A V next (suc c) s items → V s (first_or (good c s h).some.0 items) × AreFrom S A V next c (next s (first_or (good c s h).some.0 items)) (tail items) × (first_or (good c s h).some.0 items ∷ tail items ≡ items) × (flat_map w items ≡ w (first_or (good c s h).some.0 items) ++ flat_map w (tail items))
       split [] f = absurd (omega (arith, f.count))
       split (a ∷ rest) f = (f.all.0, record { count = omega (arith, f.count); all = f.all.1 }, refl, refl)
+
+-- the same values, said in other words
+pub good-as : (A : Type 0) (V U : A → Type 0) (v u : A → List ℕ) (r : Reader A) → Good A V v r → ((a : A) → V a → U a × (u a ≡ v a)) → ((a : A) → U a → V a × (u a ≡ v a)) → Good A U u r
+good-as A V U v u r g to from = record {
+  some = (g.some.0, (to g.some.0 g.some.1).0);
+  sound = λ l a m h. (let s = g.sound l a m h in let t = to a s.0 in (t.0, s.1 ∙ ap (λ z. z ++ m) (sym t.1)));
+  complete = λ a m h. (let f = from a h in ap (λ z. r (z ++ m)) f.1 ∙ g.complete a m f.0);
+  fault = λ l m h.
+    let f = g.fault l m h in
+    let t = to f.value f.valid in
+    record {
+      front = f.front;
+      is = f.is;
+      value = f.value;
+      valid = t.0;
+      rest = f.rest;
+      goes = t.1 ∙ f.goes;
+      stuck = λ x n e a more behind z k. (let o = from a z in f.stuck x n e a more behind o.0 (ap (λ y. y ++ behind) (sym o.1) ∙ k));
+    };
+}

@@ -1,3 +1,4 @@
 pub mod Good
 pub mod FreeLaws
 pub mod ReadLaws
+pub mod Formats
