@@ -2,3 +2,4 @@ pub mod Good
 pub mod FreeLaws
 pub mod ReadLaws
 pub mod Formats
+pub mod ShapeLaws
