@@ -3,3 +3,4 @@ pub mod FreeLaws
 pub mod ReadLaws
 pub mod Formats
 pub mod ShapeLaws
+pub mod NodeFormats
