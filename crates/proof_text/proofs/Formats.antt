@@ -125,7 +125,7 @@ good-numbers t k c =
 
 -- ---- numbers and indices
 
-abbrev parts_text : Operands → List ℕ
+abbrev pub parts_text : Operands → List ℕ
 parts_text o = o.numbers ++ o.indices
 
 pub record AreTail (bytes count k : ℕ) (o : Operands) : Type 0 where

@@ -4,3 +4,5 @@ pub mod ReadLaws
 pub mod Formats
 pub mod ShapeLaws
 pub mod NodeFormats
+pub mod StepFormats
+pub mod UseLaws

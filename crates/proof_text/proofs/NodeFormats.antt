@@ -1,8 +1,9 @@
 -- The readers of nodes and tables read what is written.
-use Rattle.std.proofs.Common.{◌≡◌, ℕ, zero, suc, ◌<◌, Bool, true, false, nat_eq, nat_lt, ◌&&◌, List, [], ◌∷◌, ◌++◌, length, map, take, drop, refl, ap, sym, ◌∙◌, arith}
+use Rattle.std.proofs.Common.{◌≡◌, ℕ, zero, suc, ◌<◌, Bool, true, false, nat_eq, nat_lt, ◌&&◌, ◌||◌, List, [], ◌∷◌, ◌++◌, length, map, take, drop, refl, ap, sym, ◌∙◌, arith}
 use Rattle.std.specs.List.{flat_map}
 use Rattle.std.proofs.lemmas.Bool.Decides.{nat_tests}
 use Rattle.std.proofs.lemmas.Bool.{and_parts, and_from}
+use Rattle.core_expr.specs.Heads.{kind_at, kind_table}
 use Rattle.core_expr.specs.Nodes.{AreBelow, IsNode, AreNodes, node_kind, numbers_fit}
 use Rattle.seq_calculus.specs.declared.lists.ProofNode.{ProofNode}
 use Rattle.seq_calculus.specs.Lists.{node_of, written_node}
@@ -21,8 +22,11 @@ use Rattle.proof_text.proofs.ShapeLaws.{Fits, node-test}
 pub has-room : (t : Tail) (k : ℕ) (ns is : List ℕ) → AreBelow k is → length is ≡ index_count t ns → has_room t k ≡ true
 has-room Counted k ns is b e = refl
 has-room Bytes k ns is b e = refl
-has-room (Fixed zero) k ns is b e = refl
-has-room (Fixed (suc n)) k ns is b e = less-true 0 k (positive k is b (omega arith))
+has-room (Fixed n) k ns is b e = go (nat_eq n 0) refl
+  where
+    go : (c : Bool) → nat_eq n 0 ≡ c → c || nat_lt 0 k ≡ true
+    go true q = refl
+    go false q = let p : 0 < n = grind (arith, nat_tests) in less-true 0 k (positive k is b (omega (arith, e)))
 
 abbrev IsProofNode : ℕ → ProofNode → Type 0
 IsProofNode k n = IsNode (node_of n) k
@@ -30,26 +34,27 @@ IsProofNode k n = IsNode (node_of n) k
 abbrev operands_of : ProofNode → Operands
 operands_of n = record { numbers = n.numbers; indices = n.parts }
 
+head_parts : (k h : ℕ) → head_test k h ≡ true → (nat_lt h 33 ≡ true) × (has_room (node_shape h).tail k ≡ true)
+unfolding head_test
+head_parts k h v = and_parts (nat_lt h 33) (has_room (node_shape h).tail k) v
+
+head_from : (k h : ℕ) → nat_lt h 33 ≡ true → has_room (node_shape h).tail k ≡ true → head_test k h ≡ true
+unfolding head_test
+head_from k h v w = and_from _ _ v w
+
+-- TRUE may stand anywhere
+truth_stands : (k : ℕ) → head_test k 0 ≡ true
+unfolding head_test node_shape kind_at kind_table
+truth_stands k = refl
+
 pub good-node : (k : ℕ) → Good ProofNode (IsProofNode k) written_node (node k)
 unfolding node
 good-node k =
-    good-pair ℕ Operands ProofNode made_node (λ n. n.head) operands_of (λ h. head_test k h ≡ true) (λ h. AreOperands (node_shape h) k) (IsProofNode k) one (λ _. parts_text) written_node (number (head_test k)) (λ h. operands (node_shape h) k) (good-number (head_test k) 0 (truth k)) (λ h v. good-operands (node_shape h) k (head-parts h v).1) to from
+    good-pair ℕ Operands ProofNode made_node (λ n. n.head) operands_of (λ h. head_test k h ≡ true) (λ h. AreOperands (node_shape h) k) (IsProofNode k) one (λ _. parts_text) written_node (number (head_test k)) (λ h. operands (node_shape h) k) (good-number (head_test k) 0 (truth_stands k)) (λ h v. good-operands (node_shape h) k (head_parts k h v).1) to from
   where
-    truth : (k : ℕ) → head_test k 0 ≡ true
-    unfolding head_test node_shape
-    truth k = refl
-
-    head-parts : (h : ℕ) → head_test k h ≡ true → (nat_lt h 33 ≡ true) × (has_room (node_shape h).tail k ≡ true)
-    unfolding head_test
-    head-parts h v = and_parts (nat_lt h 33) (has_room (node_shape h).tail k) v
-
-    head-from : (h : ℕ) → nat_lt h 33 ≡ true → has_room (node_shape h).tail k ≡ true → head_test k h ≡ true
-    unfolding head_test
-    head-from h v w = and_from _ _ v w
-
     to : (h : ℕ) (o : Operands) → head_test k h ≡ true → AreOperands (node_shape h) k o → IsProofNode k (made_node h o) × (written_node (made_node h o) ≡ one h ++ parts_text o)
     to h o v w =
-        let p = head-parts h v in
+        let p = head_parts k h v in
         let fit = (node-test h (length o.indices) o.numbers (less h 33 p.0)).1 (record { front = w.front; count = w.bytes.count; bytes = w.bytes.below; indices = w.indices.count }) in
         ((and_from _ _ p.0 fit, w.indices.below), refl)
 
@@ -58,7 +63,7 @@ good-node k =
         let p = and_parts (nat_lt n.head 33) (numbers_fit (node_kind n.head n.numbers) n.numbers (length n.parts)) f.0 in
         let fit = (node-test n.head (length n.parts) n.numbers (less n.head 33 p.0)).0 p.1 in
         (
-          head-from n.head p.0 (has-room (node_shape n.head).tail k (take (node_shape n.head).numbers n.numbers) n.parts f.1 fit.indices),
+          head_from k n.head p.0 (has-room (node_shape n.head).tail k (take (node_shape n.head).numbers n.numbers) n.parts f.1 fit.indices),
           record {
             front = fit.front;
             bytes = record { count = fit.count; below = fit.bytes };
