@@ -6,3 +6,4 @@ pub mod ShapeLaws
 pub mod NodeFormats
 pub mod StepFormats
 pub mod UseLaws
+pub mod WholeFormats
