@@ -1,6 +1,8 @@
 -- What readers that follow one another answer.
 use Rattle.std.proofs.Common.{◌≡◌, ℕ, zero, suc, Bool, true, false, Option, Some, None, List, [], ◌∷◌, ◌++◌, length, refl, ap, sym, ◌∙◌, append_assoc, append-nil}
-use Rattle.proof_text.specs.Reading.{Answer, Reader, after, seen, tested, number, pair, many, fault_at}
+use Rattle.proof_text.specs.Reading.{Answer, Reader, after, seen, tested, number, pair, many, fault_at, FaultIs}
+use Rattle.proof_text.specs.declared.cursor.Fault.{Fault}
+use Rattle.proof_text.specs.declared.cursor.Fault.TheVariants.{Bad, Memory}
 use Rattle.proof_text.specs.Reading.Answer.{took, bad}
 
 pub number_at : (p : ℕ → Bool) (l : List ℕ) (x : ℕ) (m : List ℕ) → l ≡ x ∷ m → number p l ≡ tested (p x) x m
@@ -13,6 +15,11 @@ after_fault (bad l) f n h = h
 pub seen_fault : {A B : Type 0} (f : A → B) (x : Answer A) (n : ℕ) → fault_at x ≡ Some n → fault_at (seen f x) ≡ Some n
 seen_fault f (took a l) n h = cc
 seen_fault f (bad l) n h = h
+
+-- a fault of a part is one of the whole
+pub fault_moves : (e : Fault) (o p : Option ℕ) → ((n : ℕ) → o ≡ Some n → p ≡ Some n) → FaultIs e o → FaultIs e p
+fault_moves (Bad n) o p f h = f n h
+fault_moves Memory o p f h = tt
 
 module _ {A B C : Type 0} (mk : A → B → C) (r : Reader A) (s : A → Reader B) where
   pub pair_took : (l : List ℕ) (a : A) (m : List ℕ) (b : B) (k : List ℕ) → r l ≡ took a m → s a m ≡ took b k → pair mk r s l ≡ took (mk a b) k

@@ -8,7 +8,11 @@ use Rattle.seq_calculus.specs.declared.lists.ProofStep.{ProofStep}
 use Rattle.seq_calculus.specs.Lists.{Lists, AreLists, AreSteps, AreApart, all_premises, node_of, written, written_node, written_step}
 use Rattle.proof_text.specs.declared.cursor.Test.TheVariants.{Any, Positive, Below}
 use Rattle.proof_text.specs.Texts.{Obligation, IsObligation, written_obligation, IsCanonText, IsProofText}
-use Rattle.proof_text.specs.Reading.{Answer, Reader, number, AllFrom, AreFrom, IsFirstBad}
+use Rattle.proof_text.specs.Reading.{Answer, Reader, number, AllFrom, AreFrom, FaultIs, fault_at, text_fault, IsFirstBad, IsBadText}
+use Rattle.proof_text.specs.declared.cursor.Fault.{Fault}
+use Rattle.proof_text.specs.declared.cursor.Fault.TheVariants.{Bad, Memory}
+use Rattle.proof_text.proofs.ReadLaws.{pair_took}
+use Rattle.std.specs.Prelude.{Some}
 use Rattle.proof_text.specs.Reading.Answer.{took, bad}
 use Rattle.proof_text.specs.Readers.{passes, counted, behind, table, step, next_free, steps, counted_steps, made_lists, proof, formulas, same_obligation, obligation}
 use Rattle.proof_text.proofs.Good.{Good, IsFault, one, good-number, good-pair, good-many}
@@ -125,3 +129,46 @@ module _ (A : Type 0) (V : A → Type 0) (w : A → List ℕ) (r : Reader A) (go
           let both : took t.0 [] ≡ took a (x ∷ rest) = sym (good.complete t.0 [] t.1) ∙ ap r (append-nil (w t.0) ∙ e) ∙ good.complete a (x ∷ rest) s.0 in
           cc;
       }
+
+-- ---- what was read
+
+pub proof_allowed : (l m k : List ℕ) (ns : List ProofNode) (ss : List ProofStep) (n : ℕ) → table Any l ≡ took ns m → n ≡ length ns → counted_steps n m ≡ took ss k → AreLists (record { nodes = ns; steps = ss })
+unfolding proof
+proof_allowed l m k ns ss n e f g =
+    (good-proof.sound l (record { nodes = ns; steps = ss }) k (pair_took made_lists (table Any) (λ ns. counted_steps (length ns)) l ns m ss k e (ap (λ n. counted_steps n m) (sym f) ∙ g))).0
+
+module _ (A : Type 0) (V : A → Type 0) (w : A → List ℕ) (r : Reader A) (good : Good A V w r) where
+  pub read_whole : (l k : List ℕ) (a : A) (m : List ℕ) → k ≡ l → r k ≡ took a m → length m ≤ 0 → V a × (w a ≡ l)
+  read_whole l k a [] e h z = let s = good.sound l a [] (ap r (sym e) ∙ h) in (s.0, sym (s.1 ∙ append-nil (w a)))
+  read_whole l k a (x ∷ m) e h z = absurd (omega arith)
+
+  pub read_more : (l k : List ℕ) (a : A) (m : List ℕ) (n : ℕ) → k ≡ l → r k ≡ took a m → n ≡ length m → 0 < n → IsFirstBad (IsText A V w r good) l (length l - n)
+  read_more l k a [] n e h f z = absurd (omega arith)
+  read_more l k a (x ∷ m) n e h f z = subst (λ n. IsFirstBad (IsText A V w r good) l (length l - n)) (sym f) (more-first A V w r good l a x m (ap r (sym e) ∙ h))
+
+  pub read_bad : (l k : List ℕ) (n : ℕ) → k ≡ l → fault_at (r k) ≡ Some n → IsFirstBad (IsText A V w r good) l (length l - n)
+  read_bad l k n e h = go (r l) refl (ap (λ k. fault_at (r k)) (sym e) ∙ h)
+    where
+      go : (x : Answer A) → r l ≡ x → fault_at x ≡ Some n → IsFirstBad (IsText A V w r good) l (length l - n)
+      go (took p m) q h = cc
+      go (bad m) q h = let f : length m ≡ n = cc in subst (λ n. IsFirstBad (IsText A V w r good) l (length l - n)) f (bad-first A V w r good l m q)
+
+pub proof_whole : (l k : List ℕ) (p : Lists) (m : List ℕ) → k ≡ l → proof k ≡ took p m → length m ≤ 0 → AreLists p × (written p ≡ l)
+proof_whole = read_whole Lists AreLists written proof good-proof
+
+pub proof_more : (l k : List ℕ) (p : Lists) (m : List ℕ) (n : ℕ) → k ≡ l → proof k ≡ took p m → n ≡ length m → 0 < n → IsFirstBad IsProofText l (length l - n)
+proof_more = read_more Lists AreLists written proof good-proof
+
+pub proof_bad : (l k : List ℕ) (e : Fault) → k ≡ l → FaultIs e (fault_at (proof k)) → IsBadText IsProofText l (text_fault (length l) e)
+proof_bad l k (Bad n) e h = read_bad Lists AreLists written proof good-proof l k n e h
+proof_bad l k Memory e h = tt
+
+pub obligation_whole : (l k : List ℕ) (o : Obligation) (m : List ℕ) → k ≡ l → obligation k ≡ took o m → length m ≤ 0 → IsObligation o × (written_obligation o ≡ l)
+obligation_whole = read_whole Obligation IsObligation written_obligation obligation good-obligation
+
+pub obligation_more : (l k : List ℕ) (o : Obligation) (m : List ℕ) (n : ℕ) → k ≡ l → obligation k ≡ took o m → n ≡ length m → 0 < n → IsFirstBad IsCanonText l (length l - n)
+obligation_more = read_more Obligation IsObligation written_obligation obligation good-obligation
+
+pub obligation_bad : (l k : List ℕ) (e : Fault) → k ≡ l → FaultIs e (fault_at (obligation k)) → IsBadText IsCanonText l (text_fault (length l) e)
+obligation_bad l k (Bad n) e h = read_bad Obligation IsObligation written_obligation obligation good-obligation l k n e h
+obligation_bad l k Memory e h = tt

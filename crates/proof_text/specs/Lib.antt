@@ -2,3 +2,4 @@ pub mod Reading
 pub mod Shapes
 pub mod Texts
 pub mod Readers
+pub mod Key

@@ -1,5 +1,8 @@
 -- Reading lists of numbers from the left.
-use Rattle.std.specs.Prelude.{◌≡◌, ℕ, zero, suc, ◌≤◌, ◌<◌, Bool, true, false, List, [], ◌∷◌, ◌++◌, length, take, Option, Some, None, Result, Ok, Err}
+use Rattle.std.specs.Prelude.{◌≡◌, ℕ, zero, suc, ◌-◌, ◌≤◌, ◌<◌, Bool, true, false, List, [], ◌∷◌, ◌++◌, length, take, Option, Some, None, Result, Ok, Err}
+use Rattle.proof_text.specs.declared.fault.TextFault.{TextFault}
+use Rattle.proof_text.specs.declared.fault.TextFault.TheVariants.{BadText}
+use Rattle.proof_text.specs.declared.fault.TextFault.TheVariants.{Memory as NoMemory}
 use Rattle.proof_text.specs.declared.cursor.Fault.{Fault}
 use Rattle.proof_text.specs.declared.cursor.Fault.TheVariants.{Bad, Memory}
 
@@ -60,11 +63,20 @@ abbrev pub fault_at : {A : Type 0} → Answer A → Option ℕ
 fault_at (took a l) = None
 fault_at (bad l) = Some (length l)
 
--- the value with what is left behind it, or the fault, is what the reader answers, unless memory was not found
+-- the fault is this one, unless memory was not found
+abbrev pub FaultIs : Fault → Option ℕ → Type 0
+FaultIs (Bad n) o = o ≡ Some n
+FaultIs Memory o = Unit {0}
+
+-- the value, seen like this, with what is left behind it, or the fault, is what the reader answers, unless memory was not
+-- found
+abbrev pub ReadsAs : {R A : Type 0} → Result R Fault → (R → A) → Answer A → List ℕ → Type 0
+ReadsAs (Ok r) view x m = x ≡ took (view r) m
+ReadsAs (Err e) view x m = FaultIs e (fault_at x)
+
+-- the same, for a value that is seen as itself
 abbrev pub Reads : {A : Type 0} → Result A Fault → Answer A → List ℕ → Type 0
-Reads (Ok a) x m = x ≡ took a m
-Reads (Err (Bad n)) x m = fault_at x ≡ Some n
-Reads (Err Memory) x m = Unit {0}
+Reads r x m = ReadsAs r (λ a. a) x m
 
 -- i is the first place such that no list of this kind goes on with the numbers up to and with it; the length where the list
 -- only ends early
@@ -73,3 +85,13 @@ pub record IsFirstBad (P : List ℕ → Type 0) (l : List ℕ) (i : ℕ) : Type 
   pub within : i ≤ length l
   pub before : (rest : List ℕ) × P (take i l ++ rest)
   pub at : i < length l → (rest : List ℕ) → ¬ P (take (suc i) l ++ rest)
+
+-- the fault of a list of so many numbers
+abbrev pub text_fault : ℕ → Fault → TextFault
+text_fault n (Bad left) = BadText (n - left)
+text_fault n Memory = NoMemory
+
+-- a list that is not read is none of this kind, and the place is the first bad one
+abbrev pub IsBadText : (List ℕ → Type 0) → List ℕ → TextFault → Type 0
+IsBadText P l (BadText i) = IsFirstBad P l i
+IsBadText P l NoMemory = Unit {0}

@@ -2,12 +2,17 @@
 #![tactic(auto)]
 
 mod cursor;
+mod digest;
 mod fault;
 mod free;
+
 mod operands;
 mod parts;
+mod read;
 mod shape;
 mod steps;
 mod table;
 
 pub use fault::TextFault;
+pub use digest::key;
+pub use read::read_proof;

@@ -1,6 +1,6 @@
 //! Readers of steps.
 ghost use Rattle.std.specs.Prelude.{◌≡◌, IfOk};
-ghost use Rattle.proof_text.specs.Reading.{Reads, number};
+ghost use Rattle.proof_text.specs.Reading.{Reads, ReadsAs, number};
 ghost use Rattle.proof_text.specs.Readers.{is_free, premises, without, without_all, rule_test, step_operands, step_behind, step, next_free, steps, counted_steps};
 
 use crate::cursor::{Cursor, Fault, Test};
@@ -125,11 +125,11 @@ fn steps(
     alloc: Global,
     nodes: u64,
     count: u64,
-) -> Result<Items<ProofStep>, Fault>
-    ensures { Reads result (steps nodes count cursor.old) cursor.new }
+) -> Result<Vec<ProofStep>, Fault>
+    ensures { ReadsAs result (λ v. v.items) (steps nodes count cursor.old) cursor.new }
 {
     let mut free = Free::new(alloc);
-    let mut items = Items::new(alloc);
+    let mut items = Vec::new(alloc);
     for i in 0..count {
         let item = step(cursor, alloc, nodes, &mut free)?;
         items.push(item)?;
@@ -143,8 +143,8 @@ pub fn counted_steps(
     cursor: &mut Cursor,
     alloc: Global,
     nodes: u64,
-) -> Result<Items<ProofStep>, Fault>
-    ensures { Reads result (counted_steps nodes cursor.old) cursor.new }
+) -> Result<Vec<ProofStep>, Fault>
+    ensures { ReadsAs result (λ v. v.items) (counted_steps nodes cursor.old) cursor.new }
 {
     let count = cursor.number(Test::Positive)?;
     steps(cursor, alloc, nodes, count)

@@ -1,6 +1,6 @@
 //! Readers of tables of expressions.
 ghost use Rattle.std.specs.Prelude.{◌≡◌, ◌&&◌, ◌||◌, nat_eq, nat_lt};
-ghost use Rattle.proof_text.specs.Reading.{Reads, number};
+ghost use Rattle.proof_text.specs.Reading.{Reads, ReadsAs, number};
 ghost use Rattle.proof_text.specs.Readers.{has_room, head_test, node, nodes, table};
 
 use crate::cursor::{Cursor, Fault, Test};
@@ -8,7 +8,6 @@ use crate::operands::operands;
 use crate::parts::Operands;
 use crate::shape::{Tail, node_shape};
 use seq_calculus::ProofNode;
-use sqlite_items::Items;
 use std::alloc::Global;
 
 /// Whether a table of so many nodes has room for a fixed number of parts.
@@ -55,10 +54,10 @@ fn node(cursor: &mut Cursor, alloc: Global, nodes: u64) -> Result<ProofNode, Fau
 
 /// So many nodes.
 #[tactic(auto, unfolding(crate::specs::Readers::nodes))]
-fn nodes(cursor: &mut Cursor, alloc: Global, count: u64) -> Result<Items<ProofNode>, Fault>
-    ensures { Reads result (nodes count cursor.old) cursor.new }
+fn nodes(cursor: &mut Cursor, alloc: Global, count: u64) -> Result<Vec<ProofNode>, Fault>
+    ensures { ReadsAs result (λ v. v.items) (nodes count cursor.old) cursor.new }
 {
-    let mut items = Items::new(alloc);
+    let mut items = Vec::new(alloc);
     for i in 0..count {
         let item = node(cursor, alloc, i)?;
         items.push(item)?;
@@ -68,8 +67,8 @@ fn nodes(cursor: &mut Cursor, alloc: Global, count: u64) -> Result<Items<ProofNo
 
 /// A table behind the number of its nodes, which passes the test.
 #[tactic(auto, unfolding(crate::specs::Readers::table))]
-pub fn table(cursor: &mut Cursor, alloc: Global, test: Test) -> Result<Items<ProofNode>, Fault>
-    ensures { Reads result (table test cursor.old) cursor.new }
+pub fn table(cursor: &mut Cursor, alloc: Global, test: Test) -> Result<Vec<ProofNode>, Fault>
+    ensures { ReadsAs result (λ v. v.items) (table test cursor.old) cursor.new }
 {
     let count = cursor.number(test)?;
     nodes(cursor, alloc, count)

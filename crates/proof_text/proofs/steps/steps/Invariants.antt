@@ -4,4 +4,4 @@ use Rattle.proof_text.proofs.ReadLaws.{Going}
 use Rattle.proof_text.proofs.steps.steps.Given as goal
 
 abbrev pub invariant-loop-i : goal.invariant-loop-i
-invariant-loop-i l = Going (step l.nodes) next_free (steps l.nodes l.count l.fn.cursor) l.items (l.count - l.i) l.free l.cursor
+invariant-loop-i l = Going (step l.nodes) next_free (steps l.nodes l.count l.fn.cursor) l.items.items (l.count - l.i) l.free l.cursor

@@ -4,4 +4,4 @@ use Rattle.proof_text.proofs.ReadLaws.{Going}
 use Rattle.proof_text.proofs.table.nodes.Given as goal
 
 abbrev pub invariant-loop-i : goal.invariant-loop-i
-invariant-loop-i l = Going node one_more (nodes l.count l.fn.cursor) l.items (l.count - l.i) l.i l.cursor
+invariant-loop-i l = Going node one_more (nodes l.count l.fn.cursor) l.items.items (l.count - l.i) l.i l.cursor
