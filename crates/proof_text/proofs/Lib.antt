@@ -7,3 +7,5 @@ pub mod NodeFormats
 pub mod StepFormats
 pub mod UseLaws
 pub mod WholeFormats
+pub mod TableTrees
+pub mod FrameLaws

@@ -8,8 +8,8 @@ use Rattle.core_expr.specs.declared.head.Head.{Head}
 use Rattle.core_expr.specs.declared.head.Head.TheVariants.{Num, Str, Enum, Tuple}
 use Rattle.core_expr.specs.declared.row.RowKind.{RowKind}
 use Rattle.core_expr.specs.declared.row.RowKind.TheVariants.{Bound, Symbol, Plain, Binding}
-use Rattle.core_expr.specs.Heads.{kind_table, kind_at, kind_symbol, kind_fits, plain_fits, head_arity, binder_arity, is_empty, is_only, is_text, are_bytes, first, after_first}
-use Rattle.core_expr.specs.Nodes.{AreBelow, canon_sym, node_kind, numbers_fit}
+use Rattle.core_expr.specs.Heads.{kind_table, kind_at, kind_symbol, kind_fits, is_head, fits, plain_fits, head_arity, binder_arity, is_empty, is_only, is_text, are_bytes, first, after_first}
+use Rattle.core_expr.specs.Nodes.{AreBelow, canon_sym, node_kind, numbers_fit, node_fits}
 use Rattle.proof_text.specs.declared.shape.Tail.TheVariants.{Fixed, Counted, Bytes}
 use Rattle.proof_text.specs.declared.shape.Shape.{Shape}
 use Rattle.proof_text.specs.Shapes.{fixed, counted, plain_shape, kind_shape, node_shape}
@@ -144,3 +144,20 @@ node-test h m ns l = go (nat_eq h 6) refl
     go : (b : Bool) → nat_eq h 6 ≡ b → (numbers_fit (cond b (Symbol (canon_sym (first ns) (first (after_first ns)))) (kind_at h)) ns m ≡ true) ↔ Fits (cond b (counted 2) (kind_shape (kind_at h))) ns m
     go true e = symbol-test m ns
     go false e = kind-test (kind_at h) m ns (no_symbol h l e)
+
+kind-fits : (k : RowKind) (m : ℕ) (ns : List ℕ) → is_symbol k ≡ false → numbers_fit k ns m ≡ true → kind_fits k ns m ≡ true
+unfolding is_symbol
+kind-fits Bound m ns e h = h
+kind-fits (Symbol f) m ns e h = cc
+kind-fits (Plain g) m ns e h = h
+kind-fits (Binding b) m ns e h = h
+
+-- a node of a table but a symbol's is built by its head number
+pub build-fits : (h m : ℕ) (ns ms : List ℕ) → ms ≡ ns → ¬ (h ≡ 6) → node_fits h ns m ≡ true → fits h None ms m ≡ true
+build-fits h m ns ms e d w =
+    let p = and_parts (nat_lt h 33) (numbers_fit (node_kind h ns) ns m) w in
+    let six : nat_eq h 6 ≡ false = grind (arith, nat_tests, d) in
+    let below : h < 33 = less h 33 p.0 in
+    let kind : numbers_fit (kind_at h) ns m ≡ true = ap (λ b. numbers_fit (cond b (Symbol (canon_sym (first ns) (first (after_first ns)))) (kind_at h)) ns m) (sym six) ∙ p.1 in
+    let head : is_head h None ≡ true = and_from _ _ (less-true h 34 (omega arith)) (ap (λ b. elim b as (λ _. Bool) [ true ↦ false | false ↦ true ]) six) in
+    and_from _ _ head (ap (λ ns. kind_fits (kind_at h) ns m) e ∙ kind-fits (kind_at h) m ns (no_symbol h below six) kind)

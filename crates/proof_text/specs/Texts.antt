@@ -4,6 +4,7 @@ use Rattle.std.specs.List.{flat_map}
 use Rattle.std.proofs.Common.{get_or}
 use Rattle.core_expr.specs.declared.canon.Canon.{Canon}
 use Rattle.core_expr.specs.Tree.{Tree, true_}
+use Rattle.core_expr.specs.Heads.{IsCanonical}
 use Rattle.core_expr.specs.Nodes.{AreBelow, AreNodes, picked, trees_of}
 use Rattle.seq_calculus.specs.declared.lists.ProofNode.{ProofNode}
 use Rattle.seq_calculus.specs.Lists.{Lists, AreLists, node_of, written, written_node}
@@ -28,9 +29,26 @@ written_obligation o = length o.nodes ∷ (flat_map written_node o.nodes ++ leng
 abbrev pub trees_in : List ProofNode → List Tree
 trees_in ns = trees_of (map node_of ns)
 
+-- the tree at a place of a table
+abbrev pub tree_in : List ProofNode → ℕ → Tree
+tree_in ns i = get_or (trees_in ns) i true_
+
 -- the canonical form that an obligation stands for
 abbrev pub canon_of : Obligation → Canon
 canon_of o = record { facts = picked (trees_in o.nodes) o.facts; goal = get_or (trees_in o.nodes) o.goal true_ }
+
+-- the symbols of each are those of a canonical form, and there is no temporal mark
+abbrev pub AreCanonical : List Tree → Type 0
+AreCanonical [] = Unit {0}
+AreCanonical (t ∷ ts) = IsCanonical t × AreCanonical ts
+
+-- the same for the facts and the goal
+abbrev pub IsCanonicalForm : Canon → Type 0
+IsCanonicalForm c = AreCanonical c.facts × IsCanonical c.goal
+
+-- the list is how an obligation is written that stands for this canonical form
+abbrev pub Shows : List ℕ → Canon → Type 0
+Shows l c = (o : Obligation) × IsObligation o × (written_obligation o ≡ l) × (c ≡ canon_of o)
 
 -- the list is how an obligation is written
 abbrev pub IsCanonText : List ℕ → Type 0

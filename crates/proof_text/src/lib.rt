@@ -4,6 +4,7 @@
 mod cursor;
 mod digest;
 mod fault;
+mod frames;
 mod free;
 
 mod operands;
@@ -15,4 +16,4 @@ mod table;
 
 pub use fault::TextFault;
 pub use digest::key;
-pub use read::read_proof;
+pub use read::{read_canon, read_proof};
