@@ -1,5 +1,5 @@
 -- The readers of numbers and indices read what is written.
-use Rattle.std.proofs.Common.{◌≡◌, ℕ, zero, suc, ◌+◌, ◌-◌, ◌<◌, ◌≤◌, Bool, true, false, cond, nat_eq, nat_lt, ◌||◌, List, [], ◌∷◌, ◌++◌, length, get_or, take, drop, refl, ap, sym, ◌∙◌, subst, arith, append_assoc, append-nil, length-append}
+use Rattle.std.proofs.Common.{◌≡◌, ℕ, zero, suc, ◌+◌, ◌-◌, ◌<◌, ◌≤◌, Bool, true, false, cond, nat_eq, nat_lt, List, [], ◌∷◌, ◌++◌, length, get_or, take, drop, refl, ap, sym, ◌∙◌, subst, arith, append_assoc, length-append}
 use Rattle.std.specs.List.{flat_map}
 use Rattle.std.proofs.lemmas.Bool.Decides.{nat_tests}
 use Rattle.std.proofs.lemmas.List.{take-append-drop, length-take-le, length-drop}
@@ -9,9 +9,8 @@ use Rattle.proof_text.specs.declared.shape.Tail.{Tail}
 use Rattle.proof_text.specs.declared.shape.Tail.TheVariants.{Fixed, Counted, Bytes}
 use Rattle.proof_text.specs.declared.shape.Shape.{Shape}
 use Rattle.proof_text.specs.declared.parts.Operands.{Operands}
-use Rattle.proof_text.specs.declared.cursor.Test.{Test}
-use Rattle.proof_text.specs.declared.cursor.Test.TheVariants.{Any, Positive, Below}
-use Rattle.proof_text.specs.Reading.{Reader, number, pair, many, AllFrom, AreFrom}
+use Rattle.proof_text.specs.declared.cursor.Test.TheVariants.{Any, Below}
+use Rattle.proof_text.specs.Reading.{number, AllFrom, AreFrom}
 use Rattle.proof_text.specs.Readers.{passes, below, keep, has_room, count_test, number_test, fewer, numbers, last_of, byte_count, index_count, with_bytes, made_operands, tail_operands, operands, behind_count, counted, made_weak, weak_operands}
 use Rattle.proof_text.proofs.Good.{Good, one, good-number, good-pair, good-many, good-as}
 
@@ -194,17 +193,18 @@ good-operands s k room =
     to : (ns : List ℕ) (o : Operands) → IsFront s.tail k s.numbers ns → AreTail (byte_count s.tail ns) (index_count s.tail ns) k o → AreOperands s k (with_bytes ns o) × (parts_text (with_bytes ns o) ≡ ns ++ parts_text o)
     to ns o v w =
         let e : ns ≡ take s.numbers (ns ++ o.numbers) = sym (take-seam s.numbers ns o.numbers v.0) in
-        let f : o.numbers ≡ drop s.numbers (ns ++ o.numbers) = sym (drop-seam s.numbers ns o.numbers v.0) in
-        (record {
-          front = omega (arith, length-append ns o.numbers, v.0);
-          bytes = subst (λ ms. Listed (byte_count s.tail ms) 256 (drop s.numbers (ns ++ o.numbers))) e (subst (Listed (byte_count s.tail ns) 256) f w.numbers);
-          indices = subst (λ ms. Listed (index_count s.tail ms) k o.indices) e w.indices;
-        }, append_assoc ns o.numbers o.indices)
+        let f : o.numbers ≡ drop s.numbers (ns ++ o.numbers) = sym (drop-seam s.numbers ns o.numbers v.0) in (
+          record {
+            front = omega (arith, length-append ns o.numbers, v.0);
+            bytes = subst (λ ms. Listed (byte_count s.tail ms) 256 (drop s.numbers (ns ++ o.numbers))) e (subst (Listed (byte_count s.tail ns) 256) f w.numbers);
+            indices = subst (λ ms. Listed (index_count s.tail ms) k o.indices) e w.indices;
+          },
+          append_assoc ns o.numbers o.indices,
+        )
 
     from : (o : Operands) → AreOperands s k o → IsFront s.tail k s.numbers (front_of s o) × AreTail (byte_count s.tail (front_of s o)) (index_count s.tail (front_of s o)) k (tail_of s o) × (with_bytes (front_of s o) (tail_of s o) ≡ o) × (parts_text o ≡ front_of s o ++ parts_text (tail_of s o))
     from o f =
-        let e = take-append-drop s.numbers o.numbers in
-        (
+        let e = take-append-drop s.numbers o.numbers in (
           (length-take-le s.numbers o.numbers f.front, room-told s.tail k (front_of s o) o.indices f.indices),
           record { numbers = f.bytes; indices = f.indices },
           (λ i. record { numbers = e i; indices = o.indices }),
@@ -271,8 +271,7 @@ good-weak k =
         let p = below-parts k a o.indices f.below in
         let l : length (take a o.indices) ≡ a = length-take-le a o.indices (omega (arith, f.count)) in
         let r : length (drop a o.indices) ≡ get_or o.numbers 1 0 = omega (arith, length-drop a o.indices, f.count) in
-        let e = two_numbers o.numbers f.numbers in
-        (
+        let e = two_numbers o.numbers f.numbers in (
           p.0,
           p.1,
           (λ i. record { numbers = ((λ j. l j ∷ r j ∷ []) ∙ e) i; indices = take-append-drop a o.indices i }),

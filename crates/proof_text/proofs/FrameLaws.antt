@@ -1,9 +1,9 @@
 -- Nodes of a table whose expressions are being made.
-use Rattle.std.proofs.Common.{◌≡◌, ℕ, zero, suc, ◌+◌, ◌<◌, ◌≤◌, true, List, [], ◌∷◌, ◌++◌, length, map, get_or, take, refl, ap, sym, ◌∙◌, subst, arith, length-append}
+use Rattle.std.proofs.Common.{◌≡◌, ℕ, zero, suc, ◌+◌, ◌<◌, ◌≤◌, List, [], ◌∷◌, ◌++◌, length, map, get_or, take, refl, ap, sym, ◌∙◌, subst, arith, length-append}
 use Rattle.std.specs.Prelude.{IsTrue}
 use Rattle.std.proofs.lemmas.List.{take_more, take_all}
 use Rattle.core_expr.specs.Tree.{Tree, true_}
-use Rattle.core_expr.specs.Nodes.{Node, IsNode, AreBelow, AreNodes, picked, node_fits, node_make}
+use Rattle.core_expr.specs.Nodes.{IsNode, AreBelow, AreNodes, picked, node_fits, node_make}
 use Rattle.seq_calculus.specs.declared.lists.ProofNode.{ProofNode}
 use Rattle.seq_calculus.specs.Lists.{node_of}
 use Rattle.proof_text.specs.declared.frames.Frame.{Frame}
@@ -73,17 +73,19 @@ ascended ns root fs gs f g t w e q c z =
     let ps = picked (trees_in ns) (parts_at ns i) in
     let long : length ps ≡ length (parts_at ns i) = length-picked (trees_in ns) (parts_at ns i) in
     let next : t ≡ get_or ps k true_ =
-        e ∙ ap (λ fs. tree_in ns (goal_of ns root fs)) q ∙ ap (tree_in ns) r.3 ∙ ap (λ j. tree_in ns (get_or (parts_at ns j) k 0)) h.node
-        ∙ sym (picked-at (trees_in ns) (parts_at ns i) k r.2) in
+    e ∙ ap (λ fs. tree_in ns (goal_of ns root fs)) q ∙ ap (tree_in ns) r.3 ∙ ap (λ j. tree_in ns (get_or (parts_at ns j) k 0)) h.node
+    ∙ sym (picked-at (trees_in ns) (parts_at ns i) k r.2) in
     let size : length g.parts.items ≡ k + 1 = omega (arith, ap length z, length-append f.parts.items (t ∷ [])) in
     let grown : f.parts.items ++ t ∷ [] ≡ take (k + 1) ps =
-        (λ j. h.parts j ++ next j ∷ []) ∙ sym (take_more ps k true_ (omega (arith, long, r.2))) in
-    (r.0, record {
-      node = c ∙ h.node;
-      within = h.within;
-      count = omega (arith, size, r.2);
-      parts = z ∙ grown ∙ ap (λ n. take n ps) (sym size);
-    })
+    (λ j. h.parts j ++ next j ∷ []) ∙ sym (take_more ps k true_ (omega (arith, long, r.2))) in (
+      r.0,
+      record {
+        node = c ∙ h.node;
+        within = h.within;
+        count = omega (arith, size, r.2);
+        parts = z ∙ grown ∙ ap (λ n. take n ps) (sym size);
+      },
+    )
 
 pub made_form : (ns : List ProofNode) (i : ℕ) (f : Frame) (n : ProofNode) → AreNodes 0 (map node_of ns) → IsFrame ns i f → n ≡ get_or ns f.node n → length n.parts ≤ length f.parts.items → IsTrue (node_fits n.head n.numbers (length f.parts.items)) × (node_make n.head n.numbers f.parts.items ≡ tree_in ns i)
 made_form ns i f n a h e l =
@@ -99,8 +101,7 @@ made_form ns i f n a h e l =
 -- an obligation's canonical form has symbols of a canonical form alone
 pub canonical-form : NodeIsCanonical → (o : Obligation) → IsObligation o → IsCanonicalForm (canon_of o)
 canonical-form law o h =
-    let e = sym (map-length o.nodes) in
-    (
+    let e = sym (map-length o.nodes) in (
       canonical-picked law (map node_of o.nodes) o.facts h.nodes (subst (λ k. AreBelow k o.facts) e h.facts),
       canonical-at law (map node_of o.nodes) o.goal h.nodes (subst (λ k. o.goal < k) e h.goal),
     )

@@ -1,7 +1,7 @@
 -- Readers that read exactly what is written, and whose faults are the first numbers that nothing written goes on with.
-use Rattle.std.proofs.Common.{◌≡◌, ℕ, zero, suc, ◌+◌, ◌-◌, ◌<◌, ◌≤◌, Bool, true, false, List, [], ◌∷◌, ◌++◌, length, take, drop, refl, ap, sym, ◌∙◌, subst, arith, append_assoc, append-nil}
+use Rattle.std.proofs.Common.{◌≡◌, ℕ, zero, suc, Bool, true, false, List, [], ◌∷◌, ◌++◌, refl, ap, sym, ◌∙◌, subst, arith, append_assoc}
 use Rattle.std.specs.List.{flat_map}
-use Rattle.proof_text.specs.Reading.{Answer, Reader, after, seen, tested, number, pair, many, AllFrom, AreFrom, IsFirstBad}
+use Rattle.proof_text.specs.Reading.{Answer, Reader, after, seen, tested, number, pair, many, AreFrom}
 use Rattle.proof_text.specs.Reading.Answer.{took, bad}
 
 -- what is read so far is a front of what is written for some value, and of none with the number at the fault
@@ -106,14 +106,14 @@ module _ (A B C : Type 0) (mk : A → B → C) (left : C → A) (right : C → B
             rest = f.rest;
             goes = t.1 ∙ ap (λ z. v a ++ z) f.goes ∙ sym (append_assoc (v a) f.front f.rest);
             stuck = λ x k q c more behind z e2.
-              let o = from c z in
-              let same : v (left c) ++ (w (left c) (right c) ++ behind) ≡ v a ++ (f.front ++ x ∷ more) =
-                  sym (append_assoc (v (left c)) (w (left c) (right c)) behind) ∙ ap (λ y. y ++ behind) (sym o.3) ∙ e2 ∙ append_assoc (v a) f.front (x ∷ more) in
-              let both : took (left c) (w (left c) (right c) ++ behind) ≡ took a (f.front ++ x ∷ more) =
-                  sym (good.complete (left c) (w (left c) (right c) ++ behind) o.0) ∙ ap r same ∙ good.complete a (f.front ++ x ∷ more) p.0 in
-              let ea : left c ≡ a = cc in
-              let em : w (left c) (right c) ++ behind ≡ f.front ++ x ∷ more = cc in
-              f.stuck x k q (right c) more behind (subst (λ y. W y (right c)) ea o.1) (ap (λ y. w y (right c) ++ behind) (sym ea) ∙ em);
+                let o = from c z in
+                let same : v (left c) ++ (w (left c) (right c) ++ behind) ≡ v a ++ (f.front ++ x ∷ more) =
+                sym (append_assoc (v (left c)) (w (left c) (right c)) behind) ∙ ap (λ y. y ++ behind) (sym o.3) ∙ e2 ∙ append_assoc (v a) f.front (x ∷ more) in
+                let both : took (left c) (w (left c) (right c) ++ behind) ≡ took a (f.front ++ x ∷ more) =
+                sym (good.complete (left c) (w (left c) (right c) ++ behind) o.0) ∙ ap r same ∙ good.complete a (f.front ++ x ∷ more) p.0 in
+                let ea : left c ≡ a = cc in
+                let em : w (left c) (right c) ++ behind ≡ f.front ++ x ∷ more = cc in
+                f.stuck x k q (right c) more behind (subst (λ y. W y (right c)) ea o.1) (ap (λ y. w y (right c) ++ behind) (sym ea) ∙ em);
           }
 
       first : (x : Answer A) → r l ≡ x → after x (λ a n. seen (mk a) (s a n)) ≡ bad m → IsFault C U u l m
@@ -130,8 +130,8 @@ module _ (A B C : Type 0) (mk : A → B → C) (left : C → A) (right : C → B
             rest = f.rest ++ w f.value b.0;
             goes = t.1 ∙ ap (λ z. z ++ w f.value b.0) f.goes ∙ append_assoc f.front f.rest (w f.value b.0);
             stuck = λ x k q c more behind z e2.
-              let o = from c z in
-              f.stuck x k q (left c) more (w (left c) (right c) ++ behind) o.0 (sym (append_assoc (v (left c)) (w (left c) (right c)) behind) ∙ ap (λ y. y ++ behind) (sym o.3) ∙ e2);
+                let o = from c z in
+                f.stuck x k q (left c) more (w (left c) (right c) ++ behind) o.0 (sym (append_assoc (v (left c)) (w (left c) (right c)) behind) ∙ ap (λ y. y ++ behind) (sym o.3) ∙ e2);
           }
 
   pub good-pair : Good C U u (pair mk r s)
@@ -185,15 +185,20 @@ good-as A V U v u r g to from = record {
   sound = λ l a m h. (let s = g.sound l a m h in let t = to a s.0 in (t.0, s.1 ∙ ap (λ z. z ++ m) (sym t.1)));
   complete = λ a m h. (let f = from a h in ap (λ z. r (z ++ m)) f.1 ∙ g.complete a m f.0);
   fault = λ l m h.
-    let f = g.fault l m h in
-    let t = to f.value f.valid in
-    record {
-      front = f.front;
-      is = f.is;
-      value = f.value;
-      valid = t.0;
-      rest = f.rest;
-      goes = t.1 ∙ f.goes;
-      stuck = λ x n e a more behind z k. (let o = from a z in f.stuck x n e a more behind o.0 (ap (λ y. y ++ behind) (sym o.1) ∙ k));
-    };
+      let f = g.fault l m h in
+      let t = to f.value f.valid in
+      record {
+        front = f.front;
+        is = f.is;
+        value = f.value;
+        valid = t.0;
+        rest = f.rest;
+        goes = t.1 ∙ f.goes;
+        stuck = λ x n e a more behind z k. (let o = from a z in f.stuck x n e a more behind o.0 (ap (λ y. y ++ behind) (sym o.1) ∙ k));
+      };
 }
+
+-- values that are written alike are the same
+pub written-once : (A : Type 0) (V : A → Type 0) (w : A → List ℕ) (r : Reader A) → Good A V w r → (a b : A) → V a → V b → w a ≡ w b → a ≡ b
+written-once A V w r g a b h k e =
+    let both : took a [] ≡ took b [] = sym (g.complete a [] h) ∙ ap (λ z. r (z ++ [])) e ∙ g.complete b [] k in cc

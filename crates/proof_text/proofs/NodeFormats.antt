@@ -1,5 +1,5 @@
 -- The readers of nodes and tables read what is written.
-use Rattle.std.proofs.Common.{◌≡◌, ℕ, zero, suc, ◌<◌, Bool, true, false, nat_eq, nat_lt, ◌&&◌, ◌||◌, List, [], ◌∷◌, ◌++◌, length, map, take, drop, refl, ap, sym, ◌∙◌, arith}
+use Rattle.std.proofs.Common.{◌≡◌, ℕ, suc, ◌<◌, Bool, true, false, nat_eq, nat_lt, ◌||◌, List, [], ◌∷◌, ◌++◌, length, map, take, refl, ap, ◌∙◌, arith}
 use Rattle.std.specs.List.{flat_map}
 use Rattle.std.proofs.lemmas.Bool.Decides.{nat_tests}
 use Rattle.std.proofs.lemmas.Bool.{and_parts, and_from}
@@ -15,8 +15,8 @@ use Rattle.proof_text.specs.Shapes.{node_shape}
 use Rattle.proof_text.specs.Reading.{number, AllFrom, AreFrom}
 use Rattle.proof_text.specs.Readers.{passes, has_room, index_count, operands, head_test, made_node, node, one_more, nodes, behind, table}
 use Rattle.proof_text.proofs.Good.{Good, one, good-number, good-pair, good-many, good-as}
-use Rattle.proof_text.proofs.Formats.{Listed, AreOperands, less, less-true, positive, parts_text, good-operands}
-use Rattle.proof_text.proofs.ShapeLaws.{Fits, node-test}
+use Rattle.proof_text.proofs.Formats.{AreOperands, less, less-true, positive, parts_text, good-operands}
+use Rattle.proof_text.proofs.ShapeLaws.{node-test}
 
 -- a fixed number of indices that stand there have room
 pub has-room : (t : Tail) (k : ℕ) (ns is : List ℕ) → AreBelow k is → length is ≡ index_count t ns → has_room t k ≡ true
@@ -61,8 +61,7 @@ good-node k =
     from : (n : ProofNode) → IsProofNode k n → (head_test k n.head ≡ true) × AreOperands (node_shape n.head) k (operands_of n) × (made_node n.head (operands_of n) ≡ n) × (written_node n ≡ one n.head ++ parts_text (operands_of n))
     from n f =
         let p = and_parts (nat_lt n.head 33) (numbers_fit (node_kind n.head n.numbers) n.numbers (length n.parts)) f.0 in
-        let fit = (node-test n.head (length n.parts) n.numbers (less n.head 33 p.0)).0 p.1 in
-        (
+        let fit = (node-test n.head (length n.parts) n.numbers (less n.head 33 p.0)).0 p.1 in (
           head_from k n.head p.0 (has-room (node_shape n.head).tail k (take (node_shape n.head).numbers n.numbers) n.parts f.1 fit.indices),
           record {
             front = fit.front;

@@ -1,5 +1,5 @@
 -- What readers that follow one another answer.
-use Rattle.std.proofs.Common.{◌≡◌, ℕ, zero, suc, Bool, true, false, Option, Some, None, List, [], ◌∷◌, ◌++◌, length, refl, ap, sym, ◌∙◌, append_assoc, append-nil}
+use Rattle.std.proofs.Common.{◌≡◌, ℕ, suc, Bool, Option, Some, List, [], ◌∷◌, ◌++◌, refl, ap, sym, ◌∙◌, append_assoc, append-nil}
 use Rattle.proof_text.specs.Reading.{Answer, Reader, after, seen, tested, number, pair, many, fault_at, FaultIs}
 use Rattle.proof_text.specs.declared.cursor.Fault.{Fault}
 use Rattle.proof_text.specs.declared.cursor.Fault.TheVariants.{Bad, Memory}

@@ -1,5 +1,5 @@
 -- The numbers and parts that the table of heads allows are those of the head's shape.
-use Rattle.std.proofs.Common.{◌≡◌, ℕ, zero, suc, ◌-◌, ◌<◌, ◌≤◌, Bool, true, false, cond, nat_eq, nat_lt, ◌&&◌, Option, Some, None, List, [], ◌∷◌, length, get_or, take, drop, refl, ap, sym, ◌∙◌, subst, arith, eq-eqb}
+use Rattle.std.proofs.Common.{◌≡◌, ℕ, ◌<◌, ◌≤◌, Bool, true, false, cond, nat_eq, nat_lt, ◌&&◌, None, List, [], ◌∷◌, length, take, drop, refl, ap, sym, ◌∙◌, arith, eq-eqb}
 use Rattle.std.specs.Prelude.{◌↔◌}
 use Rattle.std.proofs.lemmas.Bool.Decides.{nat_tests}
 use Rattle.std.proofs.lemmas.Bool.{and_parts, and_from, eqb-true, agree_below_at}
@@ -8,9 +8,8 @@ use Rattle.core_expr.specs.declared.head.Head.{Head}
 use Rattle.core_expr.specs.declared.head.Head.TheVariants.{Num, Str, Enum, Tuple}
 use Rattle.core_expr.specs.declared.row.RowKind.{RowKind}
 use Rattle.core_expr.specs.declared.row.RowKind.TheVariants.{Bound, Symbol, Plain, Binding}
-use Rattle.core_expr.specs.Heads.{kind_table, kind_at, kind_symbol, kind_fits, is_head, fits, plain_fits, head_arity, binder_arity, is_empty, is_only, is_text, are_bytes, first, after_first}
+use Rattle.core_expr.specs.Heads.{kind_table, kind_at, kind_fits, is_head, fits, plain_fits, head_arity, binder_arity, is_empty, is_only, is_text, are_bytes, first, after_first}
 use Rattle.core_expr.specs.Nodes.{AreBelow, canon_sym, node_kind, numbers_fit, node_fits}
-use Rattle.proof_text.specs.declared.shape.Tail.TheVariants.{Fixed, Counted, Bytes}
 use Rattle.proof_text.specs.declared.shape.Shape.{Shape}
 use Rattle.proof_text.specs.Shapes.{fixed, counted, plain_shape, kind_shape, node_shape}
 use Rattle.proof_text.specs.Readers.{last_of, byte_count, index_count}
@@ -47,8 +46,8 @@ counted-fits n m ns = (
     indices = h.1 ∙ ap last_of (sym (take_all n ns (omega (arith, h.0))));
   },
   λ f.
-    let e : length ns ≡ n = omega (arith, length-drop n ns, f.front, f.count) in
-    (e, f.indices ∙ ap last_of (take_all n ns (omega (arith, e)))),
+      let e : length ns ≡ n = omega (arith, length-drop n ns, f.front, f.count) in
+      (e, f.indices ∙ ap last_of (take_all n ns (omega (arith, e)))),
 )
 
 are-bytes : (bs : List ℕ) → (are_bytes bs ≡ true) ↔ AreBelow 256 bs
@@ -89,18 +88,18 @@ text-test : (m : ℕ) (ns : List ℕ) → (is_text ns && nat_eq m 0 ≡ true) �
 text-test m [] = (λ h. cc, λ f. absurd (omega (arith, f.front)))
 text-test m (n ∷ bs) = (
   λ h.
-    let p = and_parts (nat_eq n (length bs) && are_bytes bs) (nat_eq m 0) h in
-    let q = and_parts (nat_eq n (length bs)) (are_bytes bs) p.0 in
-    record { front = omega arith; count = sym (eqb-true n (length bs) q.0); bytes = (are-bytes bs).0 q.1; indices = eqb-true m 0 p.1 },
+      let p = and_parts (nat_eq n (length bs) && are_bytes bs) (nat_eq m 0) h in
+      let q = and_parts (nat_eq n (length bs)) (are_bytes bs) p.0 in
+      record { front = omega arith; count = sym (eqb-true n (length bs) q.0); bytes = (are-bytes bs).0 q.1; indices = eqb-true m 0 p.1 },
   λ f. and_from _ _ (and_from _ _ (eq-eqb n (length bs) (sym f.count)) ((are-bytes bs).1 f.bytes)) (eq-eqb m 0 f.indices),
 )
 
 symbol-test : (m : ℕ) (ns : List ℕ) → (nat_eq (length ns) 2 && nat_eq m (first (after_first ns)) ≡ true) ↔ Fits (counted 2) ns m
 symbol-test m ns = (
   λ h.
-    let p = and_parts (nat_eq (length ns) 2) (nat_eq m (first (after_first ns))) h in
-    let e = eqb-true (length ns) 2 p.0 in
-    (counted-fits 2 m ns).0 (e, eqb-true m (first (after_first ns)) p.1 ∙ second ns e),
+      let p = and_parts (nat_eq (length ns) 2) (nat_eq m (first (after_first ns))) h in
+      let e = eqb-true (length ns) 2 p.0 in
+      (counted-fits 2 m ns).0 (e, eqb-true m (first (after_first ns)) p.1 ∙ second ns e),
   λ f. (let p = (counted-fits 2 m ns).1 f in and_from _ _ (eq-eqb (length ns) 2 p.0) (eq-eqb m (first (after_first ns)) (p.1 ∙ sym (second ns p.0)))),
 )
   where

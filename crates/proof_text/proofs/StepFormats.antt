@@ -1,6 +1,5 @@
 -- The readers of steps read what is written.
-use Rattle.std.proofs.Common.{◌≡◌, ℕ, zero, suc, ◌+◌, ◌<◌, ◌≤◌, Bool, true, false, cond, nat_eq, nat_lt, nat_le, ◌&&◌, List, [], ◌∷◌, ◌++◌, length, get_or, take, drop, refl, ap, sym, ◌∙◌, subst, arith, eq-eqb}
-use Rattle.std.specs.Prelude.{IsTrue}
+use Rattle.std.proofs.Common.{◌≡◌, ℕ, suc, ◌+◌, ◌<◌, ◌≤◌, Bool, true, false, cond, nat_eq, nat_lt, nat_le, ◌&&◌, List, [], ◌∷◌, ◌++◌, length, get_or, take, refl, ap, sym, ◌∙◌, subst, arith, eq-eqb}
 use Rattle.std.specs.List.{flat_map}
 use Rattle.std.proofs.lemmas.Bool.Decides.{nat_tests}
 use Rattle.std.proofs.lemmas.Bool.{and_parts, and_from, eqb-true}
@@ -10,11 +9,11 @@ use Rattle.seq_calculus.specs.Lists.{step_fits, expression_counts, premise_count
 use Rattle.proof_text.specs.declared.parts.Operands.{Operands}
 use Rattle.proof_text.specs.Shapes.{fixed, step_shape, premise_count}
 use Rattle.proof_text.specs.Shapes.{counted as counted_shape}
-use Rattle.proof_text.specs.Reading.{Reader, number, AllFrom, AreFrom}
-use Rattle.proof_text.specs.Readers.{is_free, free_count, without, premises, has_room, index_count, last_of, operands_by, step_operands, rule_test, with_premises, same_step, step_behind, step}
+use Rattle.proof_text.specs.Reading.{number, AllFrom, AreFrom}
+use Rattle.proof_text.specs.Readers.{is_free, free_count, without, premises, has_room, last_of, operands_by, step_operands, rule_test, with_premises, same_step, step_behind, step}
 use Rattle.proof_text.proofs.FreeLaws.{count-without}
 use Rattle.proof_text.proofs.Good.{Good, one, good-number, good-pair, good-many, good-as}
-use Rattle.proof_text.proofs.Formats.{Listed, AreOperands, AreWeak, less, less-true, parts_text, weak_text, good-operands, good-weak, flat-one}
+use Rattle.proof_text.proofs.Formats.{AreOperands, AreWeak, parts_text, weak_text, good-operands, good-weak, flat-one}
 use Rattle.proof_text.proofs.ShapeLaws.{Fits, fixed-fits, counted-fits}
 use Rattle.proof_text.proofs.NodeFormats.{has-room}
 
@@ -189,19 +188,20 @@ good-step n free =
     to : (r : ℕ) (s : ProofStep) → rule_test n free r ≡ true → IsBehind n free r s → IsStepAt n free s × (written_step s ≡ one r ++ behind_text s)
     to r s v w =
         let o = form-from n s (subst (λ r. OperandsBy (nat_eq r 3) r n (operands_of s)) (sym w.rule) w.operands) in
-        let below = ap (λ r. nat_lt r 22) w.rule ∙ (rule_parts n free r v).0 in
-        (record {
-          form = step_from s below (w.premises.count ∙ ap premise_count (sym w.rule)) o.0;
-          exprs = o.1;
-          premises = w.premises.all;
-        }, (λ i. w.rule i ∷ behind_text s))
+        let below = ap (λ r. nat_lt r 22) w.rule ∙ (rule_parts n free r v).0 in (
+          record {
+            form = step_from s below (w.premises.count ∙ ap premise_count (sym w.rule)) o.0;
+            exprs = o.1;
+            premises = w.premises.all;
+          },
+          (λ i. w.rule i ∷ behind_text s),
+        )
 
     from : (s : ProofStep) → IsStepAt n free s → (rule_test n free s.rule ≡ true) × IsBehind n free s.rule s × (s ≡ s) × (written_step s ≡ one s.rule ++ behind_text s)
     from s f =
         let p = step_parts s f.form in
         let o = form-to n s p.2 f.exprs in
-        let e = enough-free free s.premises f.premises in
-        (
+        let e = enough-free free s.premises f.premises in (
           rule_from n free s.rule p.0 o.1 (omega (arith, e, p.1)),
           record { rule = refl; operands = o.0; premises = record { count = p.1; all = f.premises } },
           refl,

@@ -1,11 +1,10 @@
 -- A step is free where no step before uses it: so steps that take free ones alone use none twice.
-use Rattle.std.proofs.Common.{◌≡◌, ℕ, zero, suc, ◌+◌, ◌<◌, ◌≤◌, Bool, true, false, nat_eq, List, [], ◌∷◌, ◌++◌, length, get_or, refl, ap, sym, ◌∙◌, subst, arith, eq-eqb, append_assoc, append-nil, length-append, ◌⊎◌, inl, inr}
-use Rattle.std.specs.Prelude.{slice_set}
+use Rattle.std.proofs.Common.{◌≡◌, ℕ, zero, suc, ◌<◌, Bool, true, false, nat_eq, List, [], ◌∷◌, ◌++◌, length, refl, ap, sym, ◌∙◌, subst, arith, eq-eqb, append_assoc, append-nil, length-append}
 use Rattle.std.proofs.lemmas.List.{length-set, get_or-set_same, get_or-set_other}
 use Rattle.std.proofs.lemmas.Bool.{eqb-true}
 use Rattle.core_expr.specs.Nodes.{AreBelow}
 use Rattle.seq_calculus.specs.declared.lists.ProofStep.{ProofStep}
-use Rattle.seq_calculus.specs.Lists.{IsStep, AreSteps, all_premises, IsApart, AreApart}
+use Rattle.seq_calculus.specs.Lists.{AreSteps, all_premises, IsApart, AreApart}
 use Rattle.proof_text.specs.Reading.{AllFrom}
 use Rattle.proof_text.specs.Readers.{is_free, without, without_all, next_free}
 use Rattle.proof_text.proofs.StepFormats.{IsStepAt}

@@ -1,21 +1,21 @@
 -- The readers of proofs and obligations read what is written.
-use Rattle.std.proofs.Common.{◌≡◌, ℕ, suc, ◌+◌, ◌-◌, ◌<◌, ◌≤◌, Bool, true, nat_lt, List, [], ◌∷◌, ◌++◌, length, map, take, refl, ap, sym, ◌∙◌, subst, arith, append_assoc, append-nil, length-append}
+use Rattle.std.proofs.Common.{◌≡◌, ℕ, suc, ◌+◌, ◌-◌, ◌<◌, ◌≤◌, Bool, true, List, [], ◌∷◌, ◌++◌, length, map, take, refl, ap, sym, ◌∙◌, subst, arith, append_assoc, append-nil, length-append}
 use Rattle.std.specs.List.{flat_map}
 use Rattle.std.proofs.Math.Seq.{take-append_seam, take-append-add}
 use Rattle.core_expr.specs.Nodes.{AreBelow, AreNodes}
 use Rattle.seq_calculus.specs.declared.lists.ProofNode.{ProofNode}
 use Rattle.seq_calculus.specs.declared.lists.ProofStep.{ProofStep}
-use Rattle.seq_calculus.specs.Lists.{Lists, AreLists, AreSteps, AreApart, all_premises, node_of, written, written_node, written_step}
+use Rattle.seq_calculus.specs.Lists.{Lists, AreLists, AreSteps, AreApart, all_premises, node_of, written, written_step}
 use Rattle.proof_text.specs.declared.cursor.Test.TheVariants.{Any, Positive, Below}
-use Rattle.proof_text.specs.Texts.{Obligation, IsObligation, written_obligation, IsCanonText, IsProofText}
-use Rattle.proof_text.specs.Reading.{Answer, Reader, number, AllFrom, AreFrom, FaultIs, fault_at, text_fault, IsFirstBad, IsBadText}
+use Rattle.proof_text.specs.Texts.{Obligation, IsObligation, written_obligation, IsCanonText, IsProofText, ProofsDiffer, ObligationsDiffer}
+use Rattle.proof_text.specs.Reading.{Answer, Reader, number, AreFrom, FaultIs, fault_at, text_fault, IsFirstBad, IsBadText}
 use Rattle.proof_text.specs.declared.cursor.Fault.{Fault}
 use Rattle.proof_text.specs.declared.cursor.Fault.TheVariants.{Bad, Memory}
 use Rattle.proof_text.proofs.ReadLaws.{pair_took}
 use Rattle.std.specs.Prelude.{Some}
 use Rattle.proof_text.specs.Reading.Answer.{took, bad}
 use Rattle.proof_text.specs.Readers.{passes, counted, behind, table, step, next_free, steps, counted_steps, made_lists, proof, formulas, same_obligation, obligation}
-use Rattle.proof_text.proofs.Good.{Good, IsFault, one, good-number, good-pair, good-many}
+use Rattle.proof_text.proofs.Good.{Good, IsFault, one, good-number, good-pair, good-many, written-once}
 use Rattle.proof_text.proofs.Formats.{counted_text, good-counted, less, less-true}
 use Rattle.proof_text.proofs.NodeFormats.{IsTable, table_text, good-table}
 use Rattle.proof_text.proofs.StepFormats.{IsStepAt, good-step}
@@ -74,11 +74,14 @@ pub good-obligation : Good Obligation IsObligation written_obligation obligation
 unfolding obligation written_obligation
 good-obligation =
     good-pair (List ProofNode) Obligation Obligation same_obligation (λ o. o.nodes) (λ o. o) (IsTable Positive) AreFormulas IsObligation table_text (λ _. formulas_text) written_obligation (table Positive) formulas (good-table Positive 1 refl) (λ ns v. good-formulas ns (less 0 (length ns) v.count))
-    (λ ns o v w. (record {
-      nodes = subst (λ ns. AreNodes 0 (map node_of ns)) (sym w.nodes) v.nodes;
-      facts = subst (λ ns. AreBelow (length ns) o.facts) (sym w.nodes) w.facts;
-      goal = subst (λ ns. o.goal < length ns) (sym w.nodes) (less o.goal (length ns) w.goal);
-    }, (λ i. table_text (w.nodes i) ++ formulas_text o)))
+    (λ ns o v w. (
+      record {
+        nodes = subst (λ ns. AreNodes 0 (map node_of ns)) (sym w.nodes) v.nodes;
+        facts = subst (λ ns. AreBelow (length ns) o.facts) (sym w.nodes) w.facts;
+        goal = subst (λ ns. o.goal < length ns) (sym w.nodes) (less o.goal (length ns) w.goal);
+      },
+      (λ i. table_text (w.nodes i) ++ formulas_text o),
+    ))
     (λ o f. (record { count = less-true 0 (length o.nodes) (let g = f.goal in omega arith); nodes = f.nodes }, record { nodes = refl; facts = f.facts; goal = less-true o.goal (length o.nodes) f.goal }, refl, refl))
 
 -- ---- the first bad place of a list
@@ -125,9 +128,9 @@ module _ (A : Type 0) (V : A → Type 0) (w : A → List ℕ) (r : Reader A) (go
         within = omega arith;
         before = ([], (a, s.0, sym (append-nil (w a)) ∙ ap (λ z. z ++ []) (sym (cut-take l (w a) (x ∷ m) s.1))));
         at = λ p rest t.
-          let e : w t.0 ≡ w a ++ x ∷ rest = t.2 ∙ ap (λ z. z ++ rest) (cut-more l (w a) x m s.1) ∙ append_assoc (w a) (x ∷ []) rest in
-          let both : took t.0 [] ≡ took a (x ∷ rest) = sym (good.complete t.0 [] t.1) ∙ ap r (append-nil (w t.0) ∙ e) ∙ good.complete a (x ∷ rest) s.0 in
-          cc;
+            let e : w t.0 ≡ w a ++ x ∷ rest = t.2 ∙ ap (λ z. z ++ rest) (cut-more l (w a) x m s.1) ∙ append_assoc (w a) (x ∷ []) rest in
+            let both : took t.0 [] ≡ took a (x ∷ rest) = sym (good.complete t.0 [] t.1) ∙ ap r (append-nil (w t.0) ∙ e) ∙ good.complete a (x ∷ rest) s.0 in
+            cc;
       }
 
 -- ---- what was read
@@ -172,3 +175,9 @@ obligation_more = read_more Obligation IsObligation written_obligation obligatio
 pub obligation_bad : (l k : List ℕ) (e : Fault) → k ≡ l → FaultIs e (fault_at (obligation k)) → IsBadText IsCanonText l (text_fault (length l) e)
 obligation_bad l k (Bad n) e h = read_bad Obligation IsObligation written_obligation obligation good-obligation l k n e h
 obligation_bad l k Memory e h = tt
+
+pub proofs_differ : ProofsDiffer
+proofs_differ = written-once Lists AreLists written proof good-proof
+
+pub obligations_differ : ObligationsDiffer
+obligations_differ = written-once Obligation IsObligation written_obligation obligation good-obligation

@@ -1,5 +1,5 @@
 -- Which numbers follow a head or a rule.
-use Rattle.std.specs.Prelude.{ℕ, ◌+◌, ◌-◌, Bool, true, cond, nat_eq, nat_lt, List, [], ◌∷◌, length}
+use Rattle.std.specs.Prelude.{ℕ, cond, nat_eq}
 use Rattle.std.proofs.Common.{get_or}
 use Rattle.core_expr.specs.declared.head.Head.{Head}
 use Rattle.core_expr.specs.declared.head.Head.TheVariants.{Num, Str, Enum, Tuple}
@@ -7,7 +7,6 @@ use Rattle.core_expr.specs.declared.row.RowKind.{RowKind}
 use Rattle.core_expr.specs.declared.row.RowKind.TheVariants.{Bound, Symbol, Plain, Binding}
 use Rattle.core_expr.specs.Heads.{head_arity, binder_arity, kind_at}
 use Rattle.seq_calculus.specs.Lists.{expression_counts, premise_counts}
-use Rattle.proof_text.specs.declared.shape.Tail.{Tail}
 use Rattle.proof_text.specs.declared.shape.Tail.TheVariants.{Fixed, Counted, Bytes}
 use Rattle.proof_text.specs.declared.shape.Shape.{Shape}
 

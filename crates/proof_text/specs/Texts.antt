@@ -57,3 +57,11 @@ IsCanonText l = (o : Obligation) × IsObligation o × (written_obligation o ≡ 
 -- the list is how a proof is written
 abbrev pub IsProofText : List ℕ → Type 0
 IsProofText l = (p : Lists) × AreLists p × (written p ≡ l)
+
+-- proofs that are written alike are the same
+abbrev pub ProofsDiffer : Type 0
+ProofsDiffer = (a b : Lists) → AreLists a → AreLists b → written a ≡ written b → a ≡ b
+
+-- obligations that are written alike are the same
+abbrev pub ObligationsDiffer : Type 0
+ObligationsDiffer = (a b : Obligation) → IsObligation a → IsObligation b → written_obligation a ≡ written_obligation b → a ≡ b

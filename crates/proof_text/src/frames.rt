@@ -43,12 +43,7 @@ fn made(alloc: Global, node: &ProofNode, parts: Vec<Expr>) -> Result<Expr, Memor
 }
 
 /// Gives the expression to the node that waits for it.
-fn ascend(
-    nodes: &[ProofNode],
-    root: u64,
-    frames: &mut Vec<Frame>,
-    e: Expr,
-) -> Result<Turn, Memory>
+fn ascend(nodes: &[ProofNode], root: u64, frames: &mut Vec<Frame>, e: Expr) -> Result<Turn, Memory>
     requires waiting { AreWaiting nodes.now root frames.old.items }
     requires goal { e ≡ tree_in nodes.now (goal_of nodes.now root frames.old.items) }
     ensures { IfOk result (IsTurn nodes.now root frames.new.items) }

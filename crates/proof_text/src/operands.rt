@@ -11,7 +11,12 @@ use std::alloc::Global;
 
 /// So many numbers, each below the bound.
 #[tactic(auto, unfolding(crate::specs::Readers::below))]
-pub fn below(cursor: &mut Cursor, alloc: Global, count: u64, bound: u64) -> Result<Items<u64>, Fault>
+pub fn below(
+    cursor: &mut Cursor,
+    alloc: Global,
+    count: u64,
+    bound: u64,
+) -> Result<Items<u64>, Fault>
     ensures { Reads result (below count bound cursor.old) cursor.new }
 {
     let mut items = Items::new(alloc);

@@ -10,10 +10,10 @@ ghost use Rattle.proof_text.specs.Given.{given_of};
 
 use crate::cursor::{Cursor, Fault, Test};
 use crate::fault::TextFault;
-use crate::steps::counted_steps;
-use crate::table::table;
 use crate::frames::expr_at;
 use crate::operands::counted;
+use crate::steps::counted_steps;
+use crate::table::table;
 use core_expr::theorems::node_is_canonical;
 use core_expr::{Canon, Expr, Memory};
 use seq_calculus::{ProofNode, SeqProof};

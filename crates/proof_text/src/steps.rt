@@ -103,12 +103,7 @@ fn step_behind(
 
 /// A step, which is then free for those behind it.
 #[tactic(auto, unfolding(crate::specs::Readers::step))]
-fn step(
-    cursor: &mut Cursor,
-    alloc: Global,
-    nodes: u64,
-    free: &mut Free,
-) -> Result<ProofStep, Fault>
+fn step(cursor: &mut Cursor, alloc: Global, nodes: u64, free: &mut Free) -> Result<ProofStep, Fault>
     ensures reads { Reads result (step nodes free.old cursor.old) cursor.new }
     ensures free { IfOk result (λ s. free.new ≡ next_free free.old s) }
 {

@@ -1,6 +1,6 @@
 use Rattle.std.proofs.Common.{refl, arith}
 use Rattle.proof_text.specs.Reading.{number}
-use Rattle.proof_text.specs.Readers.{below, passes, keep}
+use Rattle.proof_text.specs.Readers.{passes, keep}
 use Rattle.proof_text.specs.declared.cursor.Test.TheVariants.{Below}
 use Rattle.proof_text.proofs.ReadLaws.{many_step}
 use Rattle.proof_text.proofs.operands.below.Goals as goal

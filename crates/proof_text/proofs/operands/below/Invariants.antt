@@ -1,4 +1,4 @@
-use Rattle.std.proofs.Common.{◌≡◌, ◌-◌, ◌≤◌}
+use Rattle.std.proofs.Common.{◌-◌}
 use Rattle.proof_text.specs.Readers.{below, passes, keep}
 use Rattle.proof_text.specs.Reading.{number}
 use Rattle.proof_text.specs.declared.cursor.Test.TheVariants.{Below}

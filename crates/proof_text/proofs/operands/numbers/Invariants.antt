@@ -1,4 +1,4 @@
-use Rattle.std.proofs.Common.{◌≡◌, ◌-◌, ◌≤◌}
+use Rattle.std.proofs.Common.{◌-◌}
 use Rattle.proof_text.specs.Readers.{numbers, number_test, passes, fewer}
 use Rattle.proof_text.specs.Reading.{number}
 use Rattle.proof_text.proofs.ReadLaws.{Going}

@@ -1,6 +1,6 @@
-use Rattle.std.proofs.Common.{arith, ap, sym, ◌∙◌}
+use Rattle.std.proofs.Common.{arith}
 use Rattle.proof_text.specs.Reading.{number}
-use Rattle.proof_text.specs.Readers.{is_free, without, without_all}
+use Rattle.proof_text.specs.Readers.{is_free, without}
 use Rattle.proof_text.proofs.ReadLaws.{many_step}
 use Rattle.proof_text.proofs.FreeLaws.{without_step}
 use Rattle.proof_text.proofs.steps.premises.Goals as goal

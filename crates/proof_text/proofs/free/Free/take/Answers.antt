@@ -1,4 +1,4 @@
-use Rattle.std.proofs.Common.{ap, sym, ◌∙◌, arith}
+use Rattle.std.proofs.Common.{ap, ◌∙◌, arith}
 use Rattle.proof_text.specs.Readers.{is_free}
 use Rattle.proof_text.proofs.FreeLaws.{count_back}
 use Rattle.proof_text.proofs.free.Free.take.Goals as goal
