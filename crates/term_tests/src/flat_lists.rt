@@ -81,11 +81,11 @@ fn bad_proofs_have_places(rt: HostRuntime) -> Result<(), Fail> {
     assert_eq!(rt; bad_proof(alloc, &[]), Some(0));
     assert_eq!(rt; bad_proof(alloc, &[0, 0]), Some(1));
     assert_eq!(rt; bad_proof(alloc, &[0, 1, 0]), Some(2));
-    assert_eq!(rt; bad_proof(alloc, &[0, 2, 1, 3]), Some(5));
+    assert_eq!(rt; bad_proof(alloc, &[0, 2, 1, 3, 1]), Some(4));
     assert_eq!(rt; bad_proof(alloc, &[1, 6, 0, 0, 1, 12]), Some(5));
-    assert_eq!(rt; bad_proof(alloc, &[1, 0, 3, 1, 1, 4, 0, 0, 0]), Some(5));
+    assert_eq!(rt; bad_proof(alloc, &[1, 0, 3, 1, 1, 4, 0, 0, 0]), Some(8));
     assert_eq!(rt; bad_proof(alloc, &[1, 0, 3, 1, 1, 4, 0, 0, 1]), None);
-    assert_eq!(rt; bad_proof(alloc, &[1, 0, 4, 1, 1, 4, 0, 0, 0]), Some(5));
+    assert_eq!(rt; bad_proof(alloc, &[1, 0, 2, 1, 4, 0, 0, 0]), Some(4));
     assert_eq!(rt; bad_proof(alloc, &[0, 1, 1, 1]), Some(3));
     Ok(())
 }
