@@ -1,0 +1,11 @@
+pub mod Good
+pub mod FreeLaws
+pub mod ReadLaws
+pub mod Formats
+pub mod ShapeLaws
+pub mod NodeFormats
+pub mod StepFormats
+pub mod UseLaws
+pub mod WholeFormats
+pub mod TableTrees
+pub mod FrameLaws
