@@ -13,7 +13,7 @@ use Rattle.core_expr.proofs.Laws.{sub-put}
 use Rattle.core_expr.proofs.Equal.{sym-same, sym-refl}
 use Rattle.obligation.specs.declared.obligation.Definition.{Definition}
 use Rattle.obligation.specs.Unfolding.{put_in, unfolded, is_defined}
-use Rattle.proof_contexts.specs.Expansion.{has_number, chosen, unfold_top, unfold_head, abstract_at, abstracts_at, abstract, name, full, IsBelow, AreBelow}
+use Rattle.proof_contexts.specs.Expansion.{has_number, chosen, unfold_top, unfold_head, abstract_at, abstracts_at, abstract, name, IsBelow, AreBelow}
 use Rattle.proof_contexts.specs.Contexts.{unfolded_by}
 use Rattle.proof_contexts.specs.Right.{IsFirst, AreOrdered}
 use Rattle.proof_contexts.specs.Laws.{ExpansionIsFinal}
