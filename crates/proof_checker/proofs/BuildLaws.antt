@@ -1,17 +1,16 @@
 -- The trees of a pattern.
-use Rattle.std.proofs.Common.{◌≡◌, ℕ, zero, suc, ◌+◌, ◌-◌, ◌<◌, ◌≤◌, Bool, true, false, ◌&&◌, nat_lt, IsTrue, Option, Some, None, List, [], ◌∷◌, ◌++◌, length, get_or, map, refl, ap, sym, ◌∙◌, arith, subst, append_assoc, length-append}
+use Rattle.std.proofs.Common.{◌≡◌, ℕ, suc, ◌+◌, ◌-◌, ◌<◌, Bool, true, ◌&&◌, nat_lt, IsTrue, List, [], ◌∷◌, ◌++◌, length, get_or, refl, ap, sym, ◌∙◌, arith, subst, length-append}
 use Rattle.std.proofs.lemmas.Bool.{and_parts, agree_below_at}
 use Rattle.std.proofs.lemmas.Bool.Decides.{nat_tests}
 use Rattle.std.proofs.lemmas.List.{get_or_default}
 use Rattle.core_expr.specs.Tree.{Tree, true_}
 use Rattle.core_expr.specs.Tree.Tree.{bound}
-use Rattle.core_expr.specs.Put.{IsScoped}
 use Rattle.core_expr.specs.Heads.{kind_at, kind_table}
-use Rattle.core_expr.specs.Nodes.{Node, AreBelow, AreNodes, picked, node_fits, node_make, trees_from, tree_over}
+use Rattle.core_expr.specs.Nodes.{Node, AreBelow, AreNodes, picked, node_fits, trees_from, tree_over}
 use Rattle.term_bank.specs.Banks.{Extends, HasTree, tree_at}
 use Rattle.term_bank.proofs.TableLaws.{length-picked, AreBelow-at}
 use Rattle.proof_checker.specs.Tables.{ArePlaced}
-use Rattle.proof_checker.specs.Schemas.{Pattern, pattern_at, opened, IsOpen, takes_opening, trees_in, subject_in, formula_in, last, IsProper, HasPattern, IsBuilt, AreOpened}
+use Rattle.proof_checker.specs.Schemas.{Pattern, pattern_at, opened, IsOpen, takes_opening, trees_in, subject_in, formula_in, last, IsBuilt, AreOpened}
 use Rattle.proof_checker.specs.declared.pattern.Opening.{Opening}
 use Rattle.proof_checker.specs.declared.pattern.Opening.TheVariants.{Nothing, Chosen, Last}
 use Rattle.proof_checker.proofs.NodeLaws.{placed_push}

@@ -4,9 +4,9 @@ use Rattle.std.proofs.lemmas.List.{drop_more, drop_all, length-map}
 use Rattle.core_expr.specs.Tree.{Tree}
 use Rattle.core_expr.specs.Heads.{IsCanonical}
 use Rattle.core_expr.specs.Put.{IsScoped}
-use Rattle.core_expr.specs.Nodes.{AreBelow, AreNodes, picked, trees_of}
+use Rattle.core_expr.specs.Nodes.{AreBelow, picked, trees_of}
 use Rattle.seq_calculus.specs.Calculus.{AllClosed, Correct}
-use Rattle.seq_calculus.specs.Lists.{Lists, AreLists, AreSteps, node_of}
+use Rattle.seq_calculus.specs.Lists.{Lists, node_of}
 use Rattle.seq_calculus.specs.declared.lists.ProofNode.{ProofNode}
 use Rattle.seq_calculus.specs.Steps.{no_proof, proofs_of, proof_of}
 use Rattle.term_bank.specs.Banks.{Extends, HasTree, tree_at}

@@ -1,5 +1,5 @@
 -- The instances about sets, tuples and literals that are written out.
-use Rattle.std.proofs.Common.{◌≡◌, ℕ, zero, suc, ◌+◌, ◌-◌, ◌<◌, ◌≤◌, Bool, true, false, cond, not, nat_eq, nat_lt, ◌&&◌, IsTrue, Option, Some, None, List, [], ◌∷◌, length, get_or, take, drop, refl, ap, sym, ◌∙◌, arith, subst, ◌⊎◌, inl, inr, ◌↔◌}
+use Rattle.std.proofs.Common.{◌≡◌, ℕ, zero, suc, ◌-◌, ◌<◌, ◌≤◌, Bool, true, false, cond, not, nat_eq, IsTrue, Option, Some, None, List, [], ◌∷◌, length, get_or, take, drop, refl, ap, sym, ◌∙◌, arith, subst, ◌⊎◌, inl, inr, ◌↔◌}
 use Rattle.std.proofs.lemmas.Bool.{and_parts, and_from, false≢true}
 use Rattle.std.proofs.lemmas.Bool.Decides.{nat_tests}
 use Rattle.std.proofs.lemmas.List.{nil_from_length, get_or_past}
@@ -12,7 +12,7 @@ use Rattle.core_expr.specs.Tree.Parts.{end}
 use Rattle.core_expr.specs.Put.{IsScoped}
 use Rattle.core_expr.specs.Heads.{kind_at, kind_table, kind_number, is_text, are_bytes, IsWellFormed, after_first}
 use Rattle.core_expr.specs.Places.{kind_of}
-use Rattle.core_expr.specs.Nodes.{Node, AreBelow, picked, node_fits, node_make, tree_over, trees_from}
+use Rattle.core_expr.specs.Nodes.{Node, picked, node_fits, node_make, tree_over, trees_from}
 use Rattle.core_expr.specs.Laws.{ShowsNode}
 use Rattle.core_expr.proofs.NodeLaws.{node-shows}
 use Rattle.seq_calculus.specs.Literals.{is_literal}

@@ -1,9 +1,9 @@
 -- Tables that are put into a bank node by node.
-use Rattle.std.proofs.Common.{◌≡◌, ℕ, zero, suc, ◌+◌, ◌<◌, ◌≤◌, Bool, true, false, List, [], ◌∷◌, ◌++◌, length, get_or, map, drop, refl, ap, sym, ◌∙◌, arith, subst, length-append}
+use Rattle.std.proofs.Common.{◌≡◌, ℕ, zero, suc, ◌+◌, ◌<◌, Bool, true, false, List, [], ◌∷◌, ◌++◌, length, get_or, map, drop, refl, ap, sym, ◌∙◌, arith, subst}
 use Rattle.std.proofs.lemmas.List.{drop_more, length_push, get_or_default}
 use Rattle.core_expr.specs.Tree.{Tree, true_, choose_}
 use Rattle.core_expr.specs.Put.{inst, IsScoped}
-use Rattle.core_expr.specs.Nodes.{Node, AreBelow, AreNodes, IsNode, picked, tree_over, trees_from}
+use Rattle.core_expr.specs.Nodes.{Node, AreBelow, AreNodes, picked, tree_over, trees_from}
 use Rattle.term_bank.specs.Banks.{Extends, HasTree, tree_at}
 use Rattle.term_bank.proofs.TableLaws.{picked-extend, AreBelow-more, AreBelow-at}
 use Rattle.term_bank.proofs.InstLaws.{Extends-trans}

@@ -1,7 +1,7 @@
 -- What the rules ask and add.
-use Rattle.std.proofs.Common.{◌≡◌, ℕ, ◌<◌, Bool, true, false, cond, IsTrue, ◌↔◌, ◌⊎◌, inl, inr, Option, Some, None, List, [], ◌∷◌, length, refl, ap, sym, ◌∙◌, subst}
+use Rattle.std.proofs.Common.{◌≡◌, ℕ, ◌<◌, Bool, true, false, cond, IsTrue, ◌↔◌, ◌⊎◌, inl, inr, Option, Some, None, List, [], ◌∷◌, length, refl, sym, subst}
 use Rattle.std.proofs.lemmas.Bool.{false≢true}
-use Rattle.core_expr.specs.Tree.{Tree, all_, ex_, choose_, not_, eq_}
+use Rattle.core_expr.specs.Tree.{Tree, choose_, not_, eq_}
 use Rattle.core_expr.specs.Put.{inst, IsScoped}
 use Rattle.core_expr.specs.Heads.{kind_at, kind_table}
 use Rattle.core_expr.specs.Nodes.{node_fits, node_make}

@@ -1,17 +1,17 @@
 -- The proofs of steps, and the tasks of their premises.
-use Rattle.std.proofs.Common.{◌≡◌, ℕ, zero, suc, ◌+◌, ◌<◌, ◌≤◌, Bool, true, false, IsTrue, List, [], ◌∷◌, ◌++◌, length, get_or, take, drop, refl, ap, sym, ◌∙◌, arith, subst, append_assoc, append-nil}
+use Rattle.std.proofs.Common.{◌≡◌, ℕ, zero, suc, ◌+◌, ◌<◌, ◌≤◌, true, false, List, [], ◌∷◌, ◌++◌, length, get_or, drop, refl, ap, sym, ◌∙◌, arith, subst, append_assoc, append-nil}
 use Rattle.std.proofs.lemmas.List.{get_or_append_left, get_or_at, length_push, take_all}
 use Rattle.core_expr.specs.Tree.{Tree}
 use Rattle.core_expr.specs.Nodes.{AreBelow, picked}
-use Rattle.seq_calculus.specs.Calculus.{Rule, Proof, Proofs, Correct, AreCorrect, AllClosed, Fits, premises}
+use Rattle.seq_calculus.specs.Calculus.{Proof, Correct, AreCorrect, AllClosed}
 use Rattle.seq_calculus.specs.Calculus.Proof.{step}
-use Rattle.seq_calculus.specs.Calculus.Proofs.{no_more, more}
+use Rattle.seq_calculus.specs.Calculus.Proofs.{more}
 use Rattle.seq_calculus.specs.Lists.{IsStep, AreSteps}
 use Rattle.seq_calculus.specs.Steps.{rule_of, no_proof, proofs_at, proof_in, proofs_from, proofs_of}
 use Rattle.seq_calculus.specs.declared.lists.ProofStep.{ProofStep}
 use Rattle.proof_checker.specs.Sides.{side, added, seen, AddsBelow, IsPart, part_side}
 use Rattle.proof_checker.specs.Plans.{sequents, PremiseBelow, PlanBelow}
-use Rattle.proof_checker.specs.Runs.{steps_in, steps_in_all, work, Claim, Claims, IsTask, AreStacked, part_of, task_for, IsPushed}
+use Rattle.proof_checker.specs.Runs.{steps_in_all, work, Claim, Claims, IsTask, AreStacked, part_of, task_for, IsPushed}
 use Rattle.proof_checker.specs.declared.side.Side.{Side}
 use Rattle.proof_checker.specs.declared.task.Adds.{Adds}
 use Rattle.proof_checker.specs.declared.task.Premise.{Premise}

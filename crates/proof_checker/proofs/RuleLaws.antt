@@ -1,12 +1,10 @@
 -- The rules by name are those by number.
-use Rattle.std.proofs.Common.{◌≡◌, ℕ, zero, suc, ◌<◌, ◌≤◌, ◌+◌, Bool, true, false, cond, ◌&&◌, nat_lt, nat_eq, IsTrue, List, [], ◌∷◌, length, get_or, map, refl, ap, sym, ◌∙◌, arith}
+use Rattle.std.proofs.Common.{◌≡◌, ℕ, zero, suc, ◌<◌, ◌≤◌, ◌+◌, Bool, true, false, cond, ◌&&◌, nat_lt, nat_eq, IsTrue, List, [], ◌∷◌, length, get_or, map, refl, ap, ◌∙◌, arith}
 use Rattle.std.proofs.lemmas.Bool.{and_parts, agree_below_at}
 use Rattle.std.proofs.lemmas.Bool.Decides.{nat_tests}
 use Rattle.core_expr.specs.Tree.{Tree}
-use Rattle.seq_calculus.specs.Calculus.{Rule}
-use Rattle.seq_calculus.specs.Calculus.Rule.{TrueR}
 use Rattle.seq_calculus.specs.Lists.{step_fits, expression_counts, premise_counts}
-use Rattle.seq_calculus.specs.Steps.{Reading, alone, readings, rule_of}
+use Rattle.seq_calculus.specs.Steps.{Reading, readings, rule_of}
 use Rattle.seq_calculus.specs.declared.lists.ProofStep.{ProofStep}
 use Rattle.term_bank.proofs.TableLaws.{is_true}
 use Rattle.proof_checker.specs.Rules.{name_of, plain_reading, reading_of, count_of, operand_count, is_weak, is_schema}

@@ -1,5 +1,5 @@
 -- A turn keeps what a run says.
-use Rattle.std.proofs.Common.{◌≡◌, ℕ, zero, suc, ◌+◌, ◌-◌, ◌<◌, ◌≤◌, List, [], ◌∷◌, ◌++◌, length, get_or, take, drop, refl, ap, sym, ◌∙◌, arith, subst, length-append}
+use Rattle.std.proofs.Common.{◌≡◌, ℕ, ◌+◌, ◌-◌, ◌<◌, ◌≤◌, List, [], ◌∷◌, ◌++◌, length, get_or, take, drop, refl, ap, sym, ◌∙◌, arith}
 use Rattle.std.proofs.lemmas.List.{take-take, take-append-le, length-take-le}
 use Rattle.core_expr.specs.Tree.{Tree}
 use Rattle.seq_calculus.specs.Calculus.{Proof, Correct}
@@ -9,7 +9,7 @@ use Rattle.seq_calculus.specs.declared.lists.ProofStep.{ProofStep}
 use Rattle.term_bank.specs.Banks.{Extends, tree_at}
 use Rattle.term_bank.proofs.TableLaws.{picked-extend}
 use Rattle.proof_checker.specs.Sides.{side, seen, added, AreFormulas, AddsBelow, IsPart, part_side}
-use Rattle.proof_checker.specs.Runs.{steps_in, work, Claim, Claims, IsTask, AreStacked, IsTop, IsTurn, IsRun, task_for}
+use Rattle.proof_checker.specs.Runs.{work, Claim, Claims, AreStacked, IsTop, IsTurn, IsRun, task_for}
 use Rattle.proof_checker.specs.Plans.{adding}
 use Rattle.proof_checker.specs.declared.side.Side.{Side}
 use Rattle.proof_checker.specs.declared.task.Adds.{Adds}

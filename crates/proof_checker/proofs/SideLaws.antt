@@ -1,13 +1,13 @@
 -- What is on a side.
 use Rattle.std.proofs.Common.{◌≡◌, ℕ, zero, suc, ◌+◌, ◌-◌, ◌<◌, ◌≤◌, List, [], ◌∷◌, ◌++◌, length, get_or, take, drop, reverse, refl, ap, sym, ◌∙◌, arith, subst, inl, inr, ◌⊎◌, append_assoc, append-nil, length-append}
-use Rattle.std.proofs.lemmas.List.{get_or-drop, length-drop, get_or_append_left, drop-append-le, length-take-le, take_all, take-take, take-append-le, drop_at, drop_more, reverse-append}
+use Rattle.std.proofs.lemmas.List.{get_or-drop, length-drop, get_or_append_left, drop-append-le, length-take-le, reverse-append}
 use Rattle.core_expr.specs.Tree.{Tree, true_}
 use Rattle.core_expr.specs.Put.{IsScoped}
-use Rattle.core_expr.specs.Nodes.{Node, AreBelow, picked, IsNode, tree_over}
+use Rattle.core_expr.specs.Nodes.{Node, picked, IsNode, tree_over}
 use Rattle.term_bank.specs.Banks.{IsDistinct, HasNode, tree_at, Extends}
-use Rattle.seq_calculus.specs.Calculus.{Has, HasAll, AllClosed}
+use Rattle.seq_calculus.specs.Calculus.{Has, AllClosed}
 use Rattle.proof_checker.specs.Latest.{HasFrom}
-use Rattle.proof_checker.specs.Sides.{side_from, side, seen, AreFormulas, added, adds_list, AddsBelow, AddsClosed, part_side, IsPart, IsEntered}
+use Rattle.proof_checker.specs.Sides.{side_from, side, seen, AreFormulas, added, adds_list, AddsBelow, AddsClosed, part_side, IsEntered}
 use Rattle.proof_checker.specs.declared.side.Side.{Side}
 use Rattle.proof_checker.specs.declared.task.Adds.{Adds}
 use Rattle.proof_checker.specs.declared.task.Adds.TheVariants.{Nothing, One, Both}

@@ -1,20 +1,18 @@
 -- Formulas about sets, tuples and literals that are written out.
-use Rattle.std.proofs.Common.{◌≡◌, ℕ, zero, suc, ◌+◌, ◌-◌, ◌<◌, ◌≤◌, Bool, true, false, cond, not, nat_eq, nat_le, Option, Some, None, List, [], ◌∷◌, ◌++◌, length, get_or, take, drop, replicate, refl, ap, sym, ◌∙◌, arith, subst, append-nil}
-use Rattle.std.proofs.lemmas.Bool.{false≢true}
+use Rattle.std.proofs.Common.{◌≡◌, ℕ, zero, suc, ◌+◌, ◌<◌, ◌≤◌, true, false, cond, nat_eq, List, [], ◌∷◌, ◌++◌, length, get_or, take, drop, replicate, refl, ap, sym, ◌∙◌, arith, append-nil}
 use Rattle.std.proofs.lemmas.Bool.Decides.{nat_tests}
-use Rattle.core_expr.specs.Tree.{Tree, true_, eq_, in_, iff_, or_, and_, not_, false_, apply_, num_, str_, enum_, tuple_}
+use Rattle.core_expr.specs.Tree.{Tree, true_, eq_, in_, iff_, or_, and_, false_, apply_, num_, enum_, tuple_}
 use Rattle.core_expr.specs.Heads.{kind_at, kind_table, parts_of}
-use Rattle.core_expr.specs.Nodes.{AreBelow, picked, node_make, node_fits, tree_over, trees_from}
-use Rattle.seq_calculus.specs.Schemas.{join, join_from, equal_pairs, equals_each, about_enumeration, about_tuples, about_entry, tuple_meaning, are_apart}
-use Rattle.seq_calculus.proofs.Listed.{pairs_step, pairs_all, join_step, join_all}
-use Rattle.term_bank.specs.Banks.{Extends, IsDistinct, HasTree, HasNode, tree_at}
-use Rattle.term_bank.proofs.TableLaws.{length-picked, AreBelow-at, AreBelow-more}
+use Rattle.core_expr.specs.Nodes.{AreBelow, picked, node_make, trees_from}
+use Rattle.seq_calculus.specs.Schemas.{join, join_from, equal_pairs, equals_each, about_enumeration, about_tuples, about_entry, tuple_meaning}
+use Rattle.seq_calculus.proofs.Listed.{pairs_step, pairs_all, join_step}
+use Rattle.term_bank.specs.Banks.{Extends, HasTree, tree_at}
+use Rattle.term_bank.proofs.TableLaws.{length-picked, AreBelow-more}
 use Rattle.term_bank.proofs.InstLaws.{Extends-trans}
 use Rattle.proof_checker.specs.Tables.{ArePlaced, cells_of}
 use Rattle.proof_checker.specs.Schemas.{last}
-use Rattle.proof_checker.specs.declared.tuple.TheConstants.{MEMBERSHIP, EQUALITY, ENTRY, DIFFERENCE}
+use Rattle.proof_checker.specs.declared.tuple.TheConstants.{MEMBERSHIP, EQUALITY, ENTRY}
 use Rattle.proof_checker.proofs.SideLaws.{longer, tree-extend}
-use Rattle.proof_checker.proofs.TurnLaws.{picked-at, picked-drop}
 use Rattle.proof_checker.proofs.NodeLaws.{picked-same, placed_push}
 
 -- a tree of a list of trees

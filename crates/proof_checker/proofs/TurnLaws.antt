@@ -1,21 +1,20 @@
 -- A task is as much as those that are put for it.
-use Rattle.std.proofs.Common.{◌≡◌, ℕ, zero, suc, ◌+◌, ◌<◌, ◌≤◌, Bool, true, false, IsTrue, Option, Some, None, List, [], ◌∷◌, ◌++◌, length, get_or, take, drop, map, reverse, refl, ap, sym, ◌∙◌, arith, subst, append-nil, append_assoc, length-append, cond}
+use Rattle.std.proofs.Common.{◌≡◌, ℕ, zero, suc, ◌+◌, ◌<◌, ◌≤◌, Bool, true, false, IsTrue, Option, Some, None, List, [], ◌∷◌, ◌++◌, length, get_or, take, drop, reverse, refl, ap, sym, ◌∙◌, arith, subst, append-nil, append_assoc, length-append, cond}
 use Rattle.std.proofs.lemmas.List.{drop_at, reverse-append, length-take-le, length-map}
 use Rattle.std.proofs.lemmas.Bool.{false≢true}
 use Rattle.core_expr.specs.Tree.{Tree}
 use Rattle.core_expr.specs.Put.{IsScoped}
 use Rattle.core_expr.specs.Nodes.{AreBelow, picked}
-use Rattle.seq_calculus.specs.Calculus.{Has, HasAll, AllClosed, Rule, Proof, Proofs, Correct, AreCorrect, Fits, premises, schema_premise}
+use Rattle.seq_calculus.specs.Calculus.{HasAll, AllClosed, Rule, Proof, Proofs, Correct, AreCorrect, schema_premise}
 use Rattle.seq_calculus.specs.Calculus.Proofs.{no_more, more}
 use Rattle.seq_calculus.specs.Calculus.Proof.{step}
-use Rattle.seq_calculus.specs.Calculus.Rule.{Weak, Schema}
+use Rattle.seq_calculus.specs.Calculus.Rule.{Schema}
 use Rattle.term_bank.proofs.TableLaws.{AreBelow-at, AreBelow-more}
 use Rattle.seq_calculus.specs.Lists.{AreSteps, IsStep}
-use Rattle.seq_calculus.specs.Schemas.{instance_of}
 use Rattle.seq_calculus.specs.Steps.{of_lists, rule_of, no_proof, proofs_at, proof_in, proofs_of}
 use Rattle.seq_calculus.specs.declared.lists.ProofStep.{ProofStep}
-use Rattle.term_bank.specs.Banks.{Extends, HasTree, tree_at}
-use Rattle.proof_checker.specs.Sides.{side, side_from, seen, added, adds_list, AreFormulas, part_side, AddsClosed, IsPart, IsEntered}
+use Rattle.term_bank.specs.Banks.{Extends, tree_at}
+use Rattle.proof_checker.specs.Sides.{side, seen, adds_list, AreFormulas, part_side, AddsClosed, IsEntered}
 use Rattle.proof_checker.specs.Plans.{adding, sequents, AreSides, Plans, left_plan}
 use Rattle.proof_checker.specs.Tables.{gathered}
 use Rattle.proof_checker.specs.Schemas.{IsInstance}
@@ -26,7 +25,7 @@ use Rattle.proof_checker.specs.declared.task.Adds.TheVariants.{Nothing}
 use Rattle.proof_checker.specs.declared.task.Plan.{Plan}
 use Rattle.proof_checker.specs.declared.task.Plan.TheVariants.{Single}
 use Rattle.proof_checker.specs.declared.task.Task.{Task}
-use Rattle.proof_checker.proofs.SideLaws.{AreFormulas-append, AreFormulas-extend, Has-closed, seen_closed, seen-extend, seen_entered, entered_formulas, adds_closed, side_from-reverse, longer}
+use Rattle.proof_checker.proofs.SideLaws.{AreFormulas-append, AreFormulas-extend, Has-closed, seen_closed, seen-extend, seen_entered, entered_formulas, adds_closed, side_from-reverse}
 use Rattle.proof_checker.proofs.ProofLaws.{proof_at, step_at, correct_closed, AreTasks, tasks_put, not_put}
 
 -- sides that stay

@@ -1,5 +1,5 @@
 -- The rules by name.
-use Rattle.std.specs.Prelude.{ℕ, Bool, true, false, List, []}
+use Rattle.std.specs.Prelude.{ℕ, Bool, true, false}
 use Rattle.std.proofs.Common.{get_or}
 use Rattle.core_expr.specs.Tree.{Tree}
 use Rattle.seq_calculus.specs.Calculus.{Rule, Rule as rule}

@@ -1,8 +1,8 @@
 -- A run of the checker.
-use Rattle.std.specs.Prelude.{◌≡◌, ℕ, suc, ◌+◌, ◌<◌, ◌≤◌, Bool, true, false, Option, Some, None, List, [], ◌∷◌, ◌++◌, length, take, map, reverse}
+use Rattle.std.specs.Prelude.{◌≡◌, ℕ, suc, ◌+◌, ◌<◌, ◌≤◌, Bool, true, false, Option, Some, None, List, [], ◌∷◌, ◌++◌, length, take, reverse}
 use Rattle.std.proofs.Common.{get_or}
 use Rattle.core_expr.specs.Tree.{Tree}
-use Rattle.core_expr.specs.Nodes.{AreBelow, picked}
+use Rattle.core_expr.specs.Nodes.{picked}
 use Rattle.seq_calculus.specs.Calculus.{HasAll, Rule, Proof, Proofs, Correct, AreCorrect, Fits, premises}
 use Rattle.seq_calculus.specs.Calculus.Proof.{step}
 use Rattle.seq_calculus.specs.Calculus.Proofs.{no_more, more}

@@ -1,7 +1,6 @@
-use Rattle.std.proofs.Common.{◌≡◌, ℕ, length, map, sym, subst, ap, ◌∙◌, List}
-use Rattle.core_expr.specs.Nodes.{AreBelow, AreNodes, trees_of}
-use Rattle.seq_calculus.specs.Lists.{AreLists, AreSteps, node_of}
-use Rattle.seq_calculus.specs.declared.lists.ProofStep.{ProofStep}
+use Rattle.std.proofs.Common.{◌≡◌, length, map, sym, ap, ◌∙◌}
+use Rattle.core_expr.specs.Nodes.{trees_of}
+use Rattle.seq_calculus.specs.Lists.{AreSteps, node_of}
 use Rattle.term_bank.proofs.InstLaws.{Extends-trans}
 use Rattle.proof_checker.specs.Tables.{ArePlaced}
 use Rattle.proof_checker.proofs.SideLaws.{AreFormulas-extend}

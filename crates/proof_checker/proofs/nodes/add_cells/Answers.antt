@@ -1,5 +1,5 @@
-use Rattle.std.proofs.Common.{◌≡◌, ◌+◌, rules, length, map, drop, ap, subst}
-use Rattle.core_expr.specs.Nodes.{IsNode, picked, tree_over, trees_from}
+use Rattle.std.proofs.Common.{◌≡◌, ◌+◌, rules, map, drop, subst}
+use Rattle.core_expr.specs.Nodes.{picked, tree_over, trees_from}
 use Rattle.term_bank.specs.Banks.{HasTree}
 use Rattle.term_bank.proofs.InstLaws.{Extends-trans}
 use Rattle.proof_checker.specs.Tables.{node_in, cells_of}

@@ -1,5 +1,5 @@
-use Rattle.std.proofs.Common.{◌≡◌, sym, subst, ap, ◌∙◌, rules, length, map, drop, ◌+◌}
-use Rattle.core_expr.specs.Nodes.{Node, picked, tree_over, trees_of}
+use Rattle.std.proofs.Common.{◌≡◌, rules, map, drop, ◌+◌}
+use Rattle.core_expr.specs.Nodes.{picked, tree_over, trees_of}
 use Rattle.seq_calculus.specs.Lists.{node_of}
 use Rattle.term_bank.specs.Banks.{HasTree, node_over}
 use Rattle.term_bank.proofs.InstLaws.{Extends-trans}

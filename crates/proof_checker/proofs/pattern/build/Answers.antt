@@ -1,10 +1,8 @@
-use Rattle.std.proofs.Common.{◌≡◌, ◌++◌, ◌∷◌, [], length, rules, subst, sym, ap, ◌∙◌, true, false, refl}
+use Rattle.std.proofs.Common.{◌≡◌, ◌++◌, ◌∷◌, [], length, rules, ap, true}
 use Rattle.core_expr.specs.Heads.{kind_at, kind_table}
-use Rattle.core_expr.specs.Nodes.{AreNodes, picked}
-use Rattle.core_expr.specs.Tree.Tree.{bound}
-use Rattle.term_bank.specs.Banks.{HasTree}
+use Rattle.core_expr.specs.Nodes.{picked}
 use Rattle.proof_checker.specs.Tables.{cells_of}
-use Rattle.proof_checker.specs.Schemas.{pattern_at, opening_at, IsOpen, opened, AreOpened, takes_opening}
+use Rattle.proof_checker.specs.Schemas.{opening_at, IsOpen, opened, AreOpened}
 use Rattle.proof_checker.proofs.BuildLaws.{takes_at, variable_put, nodes_fit, built}
 use Rattle.proof_checker.proofs.pattern.build.Goals as goal
 

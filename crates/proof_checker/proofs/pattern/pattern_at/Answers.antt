@@ -1,10 +1,10 @@
-use Rattle.std.proofs.Common.{◌≡◌, ◌<◌, ◌-◌, ℕ, length, get_or, rules, sym, ◌∙◌, ap, subst, arith}
+use Rattle.std.proofs.Common.{◌≡◌, ◌-◌, ℕ, length, get_or, rules, sym, ◌∙◌, ap, subst, arith}
 use Rattle.std.specs.Prelude.{vec_len}
 use Rattle.core_expr.specs.Put.{IsScoped}
 use Rattle.core_expr.specs.Nodes.{picked}
-use Rattle.term_bank.specs.Banks.{HasTree, tree_at}
+use Rattle.term_bank.specs.Banks.{tree_at}
 use Rattle.term_bank.proofs.TableLaws.{length-picked}
-use Rattle.proof_checker.specs.Schemas.{pattern_at, subject_in, IsBuilt}
+use Rattle.proof_checker.specs.Schemas.{pattern_at, IsBuilt}
 use Rattle.proof_checker.proofs.BuildLaws.{subject_within, subject_at, formula_at, built_some}
 use Rattle.proof_checker.proofs.pattern.pattern_at.Goals as goal
 

@@ -1,4 +1,4 @@
-use Rattle.std.proofs.Common.{◌≡◌, cond, Option, Some, None, sym, subst, ap, ◌∙◌}
+use Rattle.std.proofs.Common.{◌≡◌, cond, Some, None, sym, subst, ap, ◌∙◌}
 use Rattle.proof_checker.specs.Rules.{connective_rule}
 use Rattle.proof_checker.specs.Plans.{Plans, plan_of}
 use Rattle.proof_checker.specs.Sides.{seen}

@@ -1,5 +1,4 @@
-use Rattle.std.proofs.Common.{Some, None, refl, sym, subst, rules}
-use Rattle.proof_checker.specs.Runs.{Moves}
+use Rattle.std.proofs.Common.{Some, None, refl, rules}
 use Rattle.proof_checker.proofs.run.put_step.Goals as goal
 
 pub returns-in_ok-put-in-Some : goal.returns-in_ok-put-in-Some

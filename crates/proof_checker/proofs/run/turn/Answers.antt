@@ -1,9 +1,8 @@
-use Rattle.std.proofs.Common.{◌≡◌, ◌+◌, ◌<◌, length, rules, refl, arith, ap, sym, ◌∙◌, get_or}
-use Rattle.core_expr.specs.Nodes.{AreBelow, picked}
-use Rattle.seq_calculus.specs.Lists.{IsStep}
+use Rattle.std.proofs.Common.{◌≡◌, length, rules}
+use Rattle.core_expr.specs.Nodes.{picked}
 use Rattle.seq_calculus.specs.Steps.{proofs_of}
 use Rattle.proof_checker.specs.Tables.{gathered}
-use Rattle.proof_checker.specs.Runs.{AreEntered, IsTop}
+use Rattle.proof_checker.specs.Runs.{AreEntered}
 use Rattle.proof_checker.proofs.TurnLaws.{turn_open, turn_yes, turn_no, this_step, this_top, gathered-below, gathered-length}
 use Rattle.proof_checker.proofs.run.turn.Goals as goal
 

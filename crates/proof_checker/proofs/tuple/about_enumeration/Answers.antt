@@ -1,5 +1,4 @@
 use Rattle.std.proofs.Common.{◌≡◌, length, replicate, rules}
-use Rattle.proof_checker.proofs.SideLaws.{longer}
 use Rattle.proof_checker.proofs.TupleLaws.{enumeration_made, below_grown, below_replicate}
 use Rattle.proof_checker.proofs.tuple.about_enumeration.Goals as goal
 

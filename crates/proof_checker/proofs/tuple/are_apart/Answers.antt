@@ -1,4 +1,4 @@
-use Rattle.std.proofs.Common.{inl, inr, rules}
+use Rattle.std.proofs.Common.{inl, inr}
 use Rattle.proof_checker.proofs.InstanceLaws.{apart_same, apart_yes, apart_by_head, apart_by_heads}
 use Rattle.proof_checker.proofs.tuple.are_apart.Goals as goal
 

@@ -1,4 +1,4 @@
-use Rattle.std.proofs.Common.{refl, ◌≡◌, ◌<◌, length, rules, drop}
+use Rattle.std.proofs.Common.{refl, ◌<◌, length, rules}
 use Rattle.std.proofs.lemmas.List.{take_rest}
 use Rattle.core_expr.specs.Nodes.{picked}
 use Rattle.proof_checker.proofs.NodeLaws.{below_drop}

@@ -1,4 +1,4 @@
-use Rattle.std.proofs.Common.{length, arith, rules, refl}
+use Rattle.std.proofs.Common.{arith, rules, refl}
 use Rattle.core_expr.specs.Heads.{kind_at, kind_table}
 use Rattle.term_bank.proofs.InstLaws.{Extends-trans}
 use Rattle.proof_checker.proofs.TupleLaws.{below_later, equation_step, equations_end}

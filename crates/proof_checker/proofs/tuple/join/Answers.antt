@@ -1,9 +1,6 @@
-use Rattle.std.proofs.Common.{◌≡◌, ◌<◌, [], ◌∷◌, length, arith, rules, sym, subst, ap, refl}
+use Rattle.std.proofs.Common.{◌≡◌, ◌<◌, [], ◌∷◌, length, rules, refl}
 use Rattle.std.proofs.lemmas.List.{take_rest}
-use Rattle.core_expr.specs.Nodes.{AreBelow, picked, node_make}
-use Rattle.seq_calculus.specs.Schemas.{join}
-use Rattle.term_bank.specs.Banks.{HasTree}
-use Rattle.term_bank.proofs.TableLaws.{AreBelow-at, AreBelow-read}
+use Rattle.core_expr.specs.Nodes.{node_make}
 use Rattle.proof_checker.proofs.NodeLaws.{below_drop}
 use Rattle.proof_checker.proofs.TupleLaws.{joined_all, no_items}
 use Rattle.proof_checker.proofs.tuple.join.Goals as goal

@@ -1,4 +1,4 @@
-use Rattle.std.proofs.Common.{◌≡◌, [], ◌∷◌, length, arith, rules, refl, ap, take}
+use Rattle.std.proofs.Common.{◌≡◌, [], ◌∷◌, arith, refl, take}
 use Rattle.std.proofs.lemmas.List.{take_all}
 use Rattle.core_expr.specs.Nodes.{picked, node_make}
 use Rattle.seq_calculus.specs.Schemas.{join_from}

@@ -1,4 +1,4 @@
-use Rattle.std.proofs.Common.{refl, ◌≡◌, ◌≤◌, ◌<◌, ◌-◌, length, rules, arith, inl, inr}
+use Rattle.std.proofs.Common.{refl, ◌<◌, ◌-◌, length, arith, inl, inr}
 use Rattle.term_bank.proofs.TableLaws.{AreBelow-at}
 use Rattle.proof_checker.proofs.InstanceLaws.{entry_some, entry_none}
 use Rattle.proof_checker.proofs.tuple.tuple_entry.Goals as goal

@@ -1,4 +1,4 @@
-use Rattle.std.proofs.Common.{refl, ◌≡◌, ◌≤◌, length, rules, arith}
+use Rattle.std.proofs.Common.{length}
 use Rattle.std.proofs.lemmas.List.{take_rest}
 use Rattle.term_bank.proofs.TableLaws.{AreBelow-take}
 use Rattle.proof_checker.proofs.NodeLaws.{below_drop}

@@ -1,4 +1,4 @@
-use Rattle.std.proofs.Common.{◌≡◌, length, rules, sym, ◌∙◌, arith}
+use Rattle.std.proofs.Common.{◌≡◌, length, sym, ◌∙◌}
 use Rattle.core_expr.specs.Heads.{kind_at, kind_table}
 use Rattle.core_expr.specs.Nodes.{picked}
 use Rattle.term_bank.proofs.TableLaws.{length-picked}
