@@ -1,7 +1,7 @@
 -- On the worked obligations both definitions take the same turns.
-use Rattle.std.specs.Prelude.{◌≡◌, true, [], ◌∷◌}
+use Rattle.std.specs.Prelude.{◌≡◌, [], ◌∷◌}
 use Rattle.std.proofs.Common.{refl}
-use Rattle.core_expr.specs.Tree.{Tree, true_, false_, boolean_, not_, and_, or_, imp_, iff_, eq_, in_, subseteq_, cup_, cap_, diff_, power_, union_, funset_, dom_, apply_, except_, if_, enum_, tuple_, num_, str_, all_, ex_, choose_, filter_, image_, fun_}
+use Rattle.core_expr.specs.Tree.{true_, false_, boolean_, not_, and_, or_, imp_, iff_, eq_, in_, subseteq_, cup_, cap_, diff_, power_, union_, funset_, dom_, apply_, except_, if_, enum_, tuple_, num_, str_, all_, ex_, choose_, filter_, image_, fun_}
 use Rattle.core_expr.specs.Tree.Tree.{bound}
 use Rattle.core_expr.specs.Tree.Parts.{end, part}
 use Rattle.search_definition.specs.Branches.{closing}

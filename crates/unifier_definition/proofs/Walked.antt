@@ -1,11 +1,11 @@
 -- Nodes of one kind with the same numbers.
-use Rattle.std.proofs.Common.{◌≡◌, ℕ, zero, suc, ◌<◌, Bool, true, false, Option, Some, None, List, [], ◌∷◌, length, refl, ap, sym, ◌∙◌, arith}
+use Rattle.std.proofs.Common.{◌≡◌, ◌<◌, List, [], ◌∷◌, length, refl, ap, sym, ◌∙◌, arith}
 use Rattle.core_expr.specs.declared.head.Sym.{Sym}
 use Rattle.core_expr.specs.declared.row.RowKind.TheVariants.{Bound, Symbol, Plain, Binding}
 use Rattle.core_expr.specs.Tree.{Tree}
 use Rattle.core_expr.specs.Tree.Tree.{app}
 use Rattle.core_expr.specs.Tree.Parts.{end}
-use Rattle.core_expr.specs.Terms.{head_code, binder_code, lists_equal, same_sym}
+use Rattle.core_expr.specs.Terms.{head_code, binder_code, lists_equal}
 use Rattle.core_expr.proofs.Equal.{nat-refl, lists-refl, sym-refl}
 use Rattle.core_expr.specs.Heads.{kept_numbers, parts_of, front, back}
 use Rattle.unifier_definition.specs.Unify.{Difference, then, difference, differences}
