@@ -1,14 +1,14 @@
 -- Renaming numbers the symbols of an expression that they cover.
-use Rattle.std.proofs.Common.{◌≡◌, ℕ, zero, suc, ◌+◌, Bool, true, false, ◌||◌, ◌&&◌, cond, nat_eq, List, [], ◌∷◌, refl, sym, ap, ◌∙◌, arith}
-use Rattle.std.specs.Prelude.{Option, Some, None}
-use Rattle.std.proofs.lemmas.Bool.{and_parts, eqb-true}
+use Rattle.std.proofs.Common.{◌≡◌, ℕ, suc, ◌+◌, Bool, true, false, ◌||◌, ◌&&◌, cond, nat_eq, List, [], ◌∷◌, refl, sym, ap, ◌∙◌, arith}
+use Rattle.std.specs.Prelude.{Option, Some}
+use Rattle.std.proofs.lemmas.Bool.{and_parts}
 use Rattle.core_expr.specs.declared.head.Sym.{Sym}
 use Rattle.core_expr.specs.Tree.{Tree, Parts, size}
 use Rattle.core_expr.specs.Tree.Tree.{bound, app, node, bind}
 use Rattle.core_expr.specs.Tree.Parts.{end, part}
 use Rattle.core_expr.specs.Heads.{plain_fits, table_numbers, binder_arity, is_well_formed, are_well_formed, IsWellFormed}
 use Rattle.core_expr.specs.Nodes.{canon_sym}
-use Rattle.core_expr.specs.Put.{put, apply_body, sub, subs}
+use Rattle.core_expr.specs.Put.{apply_body, sub, subs}
 use Rattle.core_expr.specs.Rename.{named}
 use Rattle.core_expr.specs.Terms.{same_sym}
 use Rattle.core_expr.specs.Equal.{sym-same, nat-same}

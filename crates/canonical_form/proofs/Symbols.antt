@@ -1,5 +1,5 @@
 -- Symbols as keys of a set in order.
-use Rattle.std.specs.Prelude.{◌≡◌, Bool, true, false, ◌||◌, ◌&&◌, cond, List, [], ◌∷◌, ◌++◌}
+use Rattle.std.specs.Prelude.{◌≡◌, true, ◌||◌, ◌&&◌, cond, List, [], ◌∷◌, ◌++◌}
 use Rattle.std.specs.List.{list_any}
 use Rattle.std.specs.Bool.{Decides, one_answer}
 use Rattle.std.proofs.Common.{refl, ap, sym, ◌∙◌, eqb, eq-eqb, rules}

@@ -1,6 +1,6 @@
 //! The renaming that numbers symbols.
 
-ghost use Rattle.std.specs.Prelude.{◌≡◌, ◌++◌, IfOk, OnOk};
+ghost use Rattle.std.specs.Prelude.{◌≡◌, IfOk};
 ghost use Rattle.core_expr.specs.Nodes.{canon_sym};
 ghost use Rattle.core_expr.specs.Tree.Tree.{app};
 ghost use Rattle.canonical_form.specs.Named.{variables, own, pairs_from};

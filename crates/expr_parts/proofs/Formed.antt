@@ -1,7 +1,6 @@
 -- The parts of a well-formed expression are well formed.
-use Rattle.std.proofs.Common.{◌≡◌, ℕ, zero, suc, ◌<◌, ◌+◌, ◌&&◌, true, List, [], ◌∷◌, ◌++◌, length, slice_index_or, nat_eq, refl, sym, subst, arith}
+use Rattle.std.proofs.Common.{◌≡◌, ℕ, zero, suc, ◌<◌, ◌+◌, ◌&&◌, true, List, [], ◌∷◌, ◌++◌, length, slice_index_or, nat_eq, sym, subst, arith}
 use Rattle.std.proofs.lemmas.Bool.{and_parts}
-use Rattle.core_expr.specs.declared.head.Head.{Head}
 use Rattle.core_expr.specs.Tree.{Tree, Parts, size, true_}
 use Rattle.core_expr.specs.Tree.Tree.{bound, app, node, bind}
 use Rattle.core_expr.specs.Tree.Parts.{end, part}

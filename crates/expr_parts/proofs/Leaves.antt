@@ -1,6 +1,6 @@
 -- What stands for a leaf, by what the root of a subtree shows.
 use Rattle.std.proofs.Common.{◌≡◌, ℕ, suc, length, refl, sym, ap, ◌∙◌}
-use Rattle.std.specs.Prelude.{Option, Some, None, [], ◌∷◌}
+use Rattle.std.specs.Prelude.{None, []}
 use Rattle.std.specs.Borrow.{Bor}
 use Rattle.std.specs.Prelude.{List}
 use Rattle.core_expr.specs.declared.head.Sym.{Sym}

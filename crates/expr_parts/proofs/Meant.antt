@@ -1,6 +1,6 @@
 -- What changed leaves come to.
 use Rattle.std.proofs.Common.{◌≡◌, ℕ, suc, ◌-◌, Bool, true, false, cond, nat_lt, refl, ap}
-use Rattle.std.specs.Prelude.{Option, Some, None, List}
+use Rattle.std.specs.Prelude.{Some, None, List}
 use Rattle.std.specs.Borrow.{Bor}
 use Rattle.core_expr.specs.Tree.{Tree, Parts}
 use Rattle.core_expr.specs.Tree.Tree.{bound, app, node, bind}

@@ -1,5 +1,5 @@
 -- The walk that rebuilds an expression: tasks that wait, the next last, and the parts that are built, the newest last.
-use Rattle.std.specs.Prelude.{◌≡◌, ℕ, suc, ◌-◌, ◌<◌, ◌≤◌, Option, Some, None, List, [], ◌∷◌, ◌++◌, take, drop, length}
+use Rattle.std.specs.Prelude.{◌≡◌, ℕ, suc, ◌-◌, ◌<◌, ◌≤◌, List, [], ◌∷◌, ◌++◌, take, drop, length}
 use Rattle.core_expr.specs.declared.row.RowKind.{RowKind}
 use Rattle.core_expr.specs.declared.row.RowKind.TheVariants as kind
 use Rattle.core_expr.specs.Tree.{Tree}
@@ -9,7 +9,7 @@ use Rattle.core_expr.specs.Places.{subtree, kind_of, root_numbers}
 use Rattle.expr_parts.specs.declared.change.Change.{Change}
 use Rattle.expr_parts.specs.declared.task.Task.{Task}
 use Rattle.expr_parts.specs.declared.task.Task.TheVariants as task
-use Rattle.expr_parts.specs.Rebuilt.{changed, rebuilt}
+use Rattle.expr_parts.specs.Rebuilt.{rebuilt}
 
 -- the root of a tree over the last of these trees
 abbrev pub joined : Tree → List Tree → List Tree

@@ -2,7 +2,7 @@
 
 use canonical_form::canon;
 use core_expr::{Binder, Expr, Head, Memory, Sym, SymKind};
-use expr_parts::{abstracted, over_arguments, part, parts};
+use expr_parts::{abstracted, over_arguments, parts};
 use obligation::{Definition, Obligation};
 use sqlite_items::Items;
 use std::alloc::Global;

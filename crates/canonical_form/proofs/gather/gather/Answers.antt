@@ -1,5 +1,4 @@
 use Rattle.std.proofs.Common.{ap, sym, subst, ◌∙◌}
-use Rattle.core_expr.specs.Places.{subtree, kind_of}
 use Rattle.proof_contexts.specs.Canonical.{each_gathered}
 use Rattle.canonical_form.specs.Gathering.{met, waiting, AreNodes}
 use Rattle.canonical_form.proofs.Gathering.{last-node, next_gathered}

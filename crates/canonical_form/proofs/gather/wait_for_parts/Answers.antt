@@ -1,4 +1,4 @@
-use Rattle.std.proofs.Common.{◌-◌, subst, sym, ◌∙◌, arith}
+use Rattle.std.proofs.Common.{◌-◌, subst, sym, arith}
 use Rattle.core_expr.specs.Places.{subtree}
 use Rattle.canonical_form.specs.Gathering.{AreNodes}
 use Rattle.canonical_form.proofs.Gathering.{part-waits, nodes-last}

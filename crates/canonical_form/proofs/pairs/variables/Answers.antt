@@ -1,5 +1,4 @@
-use Rattle.std.proofs.Common.{◌-◌, ◌++◌, [], ◌∷◌, ap, sym, ◌∙◌, arith}
-use Rattle.core_expr.specs.Tree.Tree.{bound}
+use Rattle.std.proofs.Common.{◌-◌, ◌++◌, [], ◌∷◌, ap, ◌∙◌, arith}
 use Rattle.canonical_form.proofs.Variables.{variables-from}
 use Rattle.canonical_form.proofs.pairs.variables.Goals as goal
 

@@ -1,7 +1,7 @@
 use Rattle.std.proofs.Common.{◌-◌, ap, sym, subst, ◌∙◌, arith}
 use Rattle.core_expr.specs.Heads.{subtrees}
 use Rattle.core_expr.specs.Places.{subtree, kind_of}
-use Rattle.expr_parts.specs.Walk.{inner, parts_rebuilt, Builds}
+use Rattle.expr_parts.specs.Walk.{inner, Builds}
 use Rattle.expr_parts.proofs.Walking.{builds-none, part-waits, drop-all}
 use Rattle.expr_parts.proofs.rebuild.visit_parts.Goals as goal
 

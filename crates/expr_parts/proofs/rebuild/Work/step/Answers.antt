@@ -1,4 +1,4 @@
-use Rattle.std.proofs.Common.{◌++◌, [], ◌∷◌, sym, subst, ◌∙◌}
+use Rattle.std.proofs.Common.{◌++◌, [], ◌∷◌, sym, subst}
 use Rattle.expr_parts.specs.Walk.{Gives}
 use Rattle.expr_parts.proofs.Walking.{visit_next, join_next}
 use Rattle.expr_parts.proofs.rebuild.Work.step.Goals as goal

@@ -1,7 +1,7 @@
-use Rattle.std.proofs.Common.{◌++◌, [], ◌∷◌, sym, subst, ◌∙◌}
+use Rattle.std.proofs.Common.{[], sym, subst, ◌∙◌}
 use Rattle.core_expr.specs.Heads.{subtrees}
 use Rattle.core_expr.specs.Places.{subtree, kind_of}
-use Rattle.expr_parts.specs.Walk.{inner, parts_rebuilt, Builds, Gives}
+use Rattle.expr_parts.specs.Walk.{inner, parts_rebuilt, Builds}
 use Rattle.expr_parts.proofs.Walking.{parts_wait, none-there}
 use Rattle.expr_parts.proofs.rebuild.Work.visit.Goals as goal
 
