@@ -1,0 +1,4 @@
+pub mod Binding
+pub mod Heads
+pub mod Growing
+pub mod Cleaning

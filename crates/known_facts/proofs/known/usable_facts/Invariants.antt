@@ -1,0 +1,7 @@
+use Rattle.std.proofs.Common.{◌≡◌, ◌++◌, drop}
+use Rattle.proof_contexts.specs.Contexts.{usable_of}
+use Rattle.known_facts.specs.Shown.{entries_of}
+use Rattle.known_facts.proofs.known.usable_facts.Given as goal
+
+abbrev pub invariant-loop-fact : goal.invariant-loop-fact
+invariant-loop-fact l = l.found ++ usable_of (entries_of (drop l.fact-index l.known)) ≡ l.fn.found ++ usable_of (entries_of l.known)
