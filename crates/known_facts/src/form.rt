@@ -46,7 +46,7 @@ fn two_parts(alloc: Global, e: &Expr) -> Result<(Expr, Expr), Memory>
 
 /// The two sides of an implication.
 #[tactic(auto, using(crate::proofs::Heads::imp_here, crate::proofs::Heads::imp_fits, crate::proofs::Heads::imp_other))]
-pub(crate) fn implication(alloc: Global, e: &Expr) -> Result<Option<(Expr, Expr)>, Memory>
+pub fn implication(alloc: Global, e: &Expr) -> Result<Option<(Expr, Expr)>, Memory>
     ensures { IfOk result (λ o. as_pair o ≡ contexts.as_imp e.now) }
 {
     if !is_head(root(e), Head::Imp) {
@@ -68,7 +68,7 @@ fn conjunction(alloc: Global, e: &Expr) -> Result<Option<(Expr, Expr)>, Memory>
 
 /// The element and the set of a membership.
 #[tactic(auto, using(crate::proofs::Heads::in_here, crate::proofs::Heads::in_fits, crate::proofs::Heads::in_other))]
-pub(crate) fn membership(alloc: Global, e: &Expr) -> Result<Option<(Expr, Expr)>, Memory>
+pub fn membership(alloc: Global, e: &Expr) -> Result<Option<(Expr, Expr)>, Memory>
     ensures { IfOk result (λ o. as_pair o ≡ contexts.as_in e.now) }
 {
     if !is_head(root(e), Head::In) {
@@ -91,7 +91,7 @@ impl Quantifier {
 
     /// What is said under the quantifier, where a formula begins with it.
     #[tactic(auto, using(crate::proofs::Heads::quantified_here, crate::proofs::Heads::quantified_fits, crate::proofs::Heads::quantified_other))]
-    pub(crate) fn body_of(self, alloc: Global, e: &Expr) -> Result<Option<Expr>, Memory>
+    pub fn body_of(self, alloc: Global, e: &Expr) -> Result<Option<Expr>, Memory>
         ensures { IfOk result (λ o. o ≡ as_quantified self e.now) }
     {
         if !self.is_root(root(e)) {
@@ -101,7 +101,7 @@ impl Quantifier {
     }
 
     /// What restricts the name, and what is said of it, where a formula under the quantifier has this form.
-    pub(crate) fn restriction_of(
+    pub fn restriction_of(
         self,
         alloc: Global,
         e: &Expr,

@@ -50,14 +50,14 @@ impl NewSymbol {
     }
 
     /// The symbol as an expression.
-    pub(crate) fn name(self, alloc: Global) -> Result<Expr, Memory>
+    pub fn name(self, alloc: Global) -> Result<Expr, Memory>
         ensures { IfOk result (λ e. e ≡ name (sym_of self)) }
     {
         Expr::symbol(alloc, self.symbol(), Vec::new(alloc))
     }
 
     /// That the symbol is in a set.
-    pub(crate) fn within(self, alloc: Global, set: &Expr) -> Result<Expr, Memory>
+    pub fn within(self, alloc: Global, set: &Expr) -> Result<Expr, Memory>
         ensures { IfOk result (λ e. e ≡ in_ (name (sym_of self)) set.now) }
     {
         let set = set.copy(alloc)?;
@@ -79,7 +79,7 @@ impl NewSymbol {
 
 /// A quantifier.
 #[derive(Clone, Copy, Debug)]
-pub(crate) enum Quantifier {
+pub enum Quantifier {
     All,
     Exists,
 }

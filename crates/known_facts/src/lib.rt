@@ -15,5 +15,6 @@ mod table;
 
 pub use context::{Context, Saved};
 pub use fact::Fact;
-pub use item::{Item, NewSymbol, Statement, fact_of, picked};
+pub use form::{implication, membership};
+pub use item::{Item, NewSymbol, Quantifier, Statement, fact_of, picked};
 pub use table::Table;

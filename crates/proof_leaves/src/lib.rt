@@ -4,6 +4,12 @@
 //! definitions of proof contexts say, and that a step's own proof is answered in the context inside of that step.
 #![tactic(auto)]
 
+mod entering;
+mod making;
+mod proof;
 mod step;
 
+pub use entering::{Entered, conclude, enter, leave};
+pub use making::make;
+pub use proof::{by_facts, missing, obvious, omitted};
 pub use step::{Claim, Move};
