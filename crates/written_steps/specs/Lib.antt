@@ -1,0 +1,3 @@
+pub mod Homes
+pub mod Acts
+pub mod Additions
