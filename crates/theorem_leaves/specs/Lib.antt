@@ -1,2 +1,9 @@
-pub mod Chapters
 pub mod Visits
+pub mod Walks
+pub mod Citations
+pub mod Citing
+pub mod Chapters
+pub mod Keeping
+pub mod Passing
+pub mod Theorems
+pub mod Modules

@@ -6,5 +6,6 @@
 
 mod chapter;
 mod number;
+mod walk;
 
 pub use chapter::{Chapter, TheoremLeaves};
