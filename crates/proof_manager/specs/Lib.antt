@@ -1,7 +1,6 @@
 pub mod Words
-pub mod Temporal
-pub mod Outline
-pub mod Report
+pub mod Values
+pub mod Judging
+pub mod Reading
 pub mod Status
-pub mod Run
 pub mod Causes

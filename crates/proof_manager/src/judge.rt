@@ -1,135 +1,188 @@
-//! From modules to their report.
+//! What leaves come to.
 
-ghost use Rattle.std.specs.Prelude.{◌≡◌, ◌∷◌, ◌++◌, [], count_by, flat_map, map, IfOk, OnOk};
-ghost use Rattle.std.specs.List.{All, list_all};
-ghost use Rattle.proof_manager.specs.Causes.{AreStatements, IsStatement};
-ghost use Rattle.proof_manager.specs.Run.{all_hold, chapter_lines, holds, lines_of, report_of, theorems_of};
+ghost use Rattle.std.specs.Prelude.{◌≡◌, length, map, IfOk};
+ghost use Rattle.propositional_search.specs.declared.search.Answer.{Answer as answered};
+ghost use Rattle.proof_manager.specs.Causes.{Answers};
+ghost use Rattle.proof_manager.specs.Judging as spec;
+ghost use Rattle.proof_manager.specs.Values.{symbol_text, valuation_text};
 
-use crate::outline::{Chapter, Outline, Theorem};
-use crate::report::{push_count, push_header, push_theorem};
-use core_expr::Memory;
-use formula_answer::{answer_to, is_proved};
+use crate::values::push_valuation;
+use canonical_form::canon;
+use core_expr::{Memory, Sym, Text};
+use obligation::Obligation;
+use propositional_search::Answer;
+use proof_contexts::{Leaf, LeafKind};
+use sequent_answer::{answer_to, is_propositional};
+use sqlite_items::Items;
+use status_report::{LeafIn, ModuleIn, Shown, TheoremIn};
 use std::alloc::Global;
 use symbol_table::Scoped;
+use theorem_leaves::{Chapter, TheoremLeaves};
+use tla_ast::{Kind, Place, ScopeFault};
 
-/// The lines so far, and for each theorem in them whether it is proved.
-#[derive(Drop)]
-struct Lines {
-    report: Vec<u8>,
-    verdicts: Vec<bool>,
-}
-
-/// A report that is ready to be written, and whether every theorem is proved.
-#[derive(Drop)]
-pub struct Judged {
-    pub report: Vec<u8>,
-    pub all_proved: bool,
-}
-
-/// Answers a theorem: appends its lines, and whether it is proved.
-#[tactic(auto, using(crate::proofs::LineLaws::lines_are))]
-fn judge_theorem(
+/// Where leaves are answered: the table of names, and the name of the module.
+#[derive(Clone, Copy)]
+pub struct Judge<'a> {
     alloc: Global,
-    lines: &mut Lines,
-    scoped: &Scoped,
-    theorem: &Theorem,
-) -> Result<(), Memory>
-    requires { IsStatement theorem.now }
-    ensures lines { OnOk result (lines.new.report.items
-        ≡ lines.old.report.items ++ lines_of scoped.now.entries theorem.now) }
-    ensures verdicts { OnOk result (lines.new.verdicts.items
-        ≡ lines.old.verdicts.items ++ holds theorem.now ∷ []) }
-{
-    let answered = answer_to(alloc, &theorem.statement)?;
-    push_theorem(&mut lines.report, scoped, theorem, &answered)?;
-    lines.verdicts.push(is_proved(&answered.answer))?;
-    Ok(())
+    scoped: &'a Scoped,
+    module: &'a Text,
 }
 
-/// Answers the theorems in order.
-fn judge_theorems(
+/// The text of a valuation of symbols.
+fn valuation(
     alloc: Global,
-    lines: &mut Lines,
     scoped: &Scoped,
-    theorems: &[Theorem],
-) -> Result<(), Memory>
-    requires { All IsStatement theorems.now }
-    ensures lines { OnOk result (lines.new.report.items
-        ≡ lines.old.report.items ++ flat_map (lines_of scoped.now.entries) theorems.now) }
-    ensures verdicts { OnOk result (lines.new.verdicts.items
-        ≡ lines.old.verdicts.items ++ map holds theorems.now) }
+    symbols: &[Sym],
+    values: &[bool],
+) -> Result<Text, Memory>
+    requires { length values.now ≡ length symbols.now }
+    ensures { IfOk result (λ t. t ≡ valuation_text (map (symbol_text scoped.now.entries) symbols.now) values.now) }
 {
-    for theorem in theorems {
-        judge_theorem(alloc, lines, scoped, theorem)?;
+    let mut text = Vec::new(alloc);
+    push_valuation(&mut text, scoped, symbols, values)?;
+    Ok(Text::from_vec(text))
+}
+
+/// What is shown of an answer.
+fn shown(
+    alloc: Global,
+    scoped: &Scoped,
+    symbols: &[Sym],
+    answer: &Answer,
+) -> Result<Shown, Memory>
+    requires { HasValues (length symbols.now) answer.now }
+    ensures { IfOk result (λ s. s ≡ spec.shown_answer (map (symbol_text scoped.now.entries) symbols.now) answer.now) }
+{
+    match answer {
+        Answer::Proved { turns } => Ok(Shown::Proved(*turns)),
+        Answer::Spent { turns } => Ok(Shown::Spent(*turns)),
+        Answer::Saturated { values, turns } => {
+            let text = valuation(alloc, scoped, symbols, values.as_slice())?;
+            Ok(Shown::Saturated(*turns, Some(text)))
+        }
     }
-    Ok(())
 }
 
-/// Answers the theorems of a module: appends its lines, and which theorems are proved.
-fn judge_chapter(
-    alloc: Global,
-    lines: &mut Lines,
-    scoped: &Scoped,
-    chapter: &Chapter,
-) -> Result<(), Memory>
-    requires { All IsStatement chapter.now.theorems }
-    ensures lines { OnOk result (lines.new.report.items
-        ≡ lines.old.report.items ++ chapter_lines scoped.now.entries chapter.now) }
-    ensures verdicts { OnOk result (lines.new.verdicts.items
-        ≡ lines.old.verdicts.items ++ map holds chapter.now.theorems) }
+impl Judge<'_> {
+    /// The refusal of what is not built yet.
+    fn left_out(&self, place: Place) -> Result<ScopeFault, Memory>
+        ensures { IfOk result (λ e. e ≡ spec.form self.now.«module».now place) }
+    {
+        Ok(ScopeFault::At {
+            module: Text::of(self.alloc, self.module.bytes())?,
+            place,
+            kind: Kind::Unsupported(Text::of(self.alloc, b"form")?),
+        })
+    }
+
+    /// What an obligation comes to.
+    fn search(&self, place: Place, of: &Obligation) -> Result<Shown, ScopeFault>
+        ensures { Answers (λ s. s) result
+            (spec.searched self.now.scoped.now.entries self.now.«module».now place of.now) }
+    {
+        let named = canon(self.alloc, of)?;
+        if !is_propositional(&named.canon) {
+            return Err(self.left_out(place)?);
+        }
+        let answer = answer_to(self.alloc, &named.canon)?;
+        Ok(shown(self.alloc, self.scoped, named.names.as_slice(), &answer)?)
+    }
+
+    /// What a leaf comes to.
+    fn leaf(&self, leaf: &Leaf) -> Result<LeafIn, ScopeFault>
+        ensures { Answers (λ l. l) result
+            (spec.judged_leaf self.now.scoped.now.entries self.now.«module».now leaf.now) }
+    {
+        let verdict = match &leaf.kind {
+            LeafKind::Search(obligation) => self.search(leaf.place, obligation)?,
+            LeafKind::Missing => Shown::Missing,
+            LeafKind::Omitted => Shown::Omitted,
+            LeafKind::Temporal => Shown::Temporal,
+            LeafKind::Shape => Shown::Shape,
+        };
+        Ok(LeafIn {
+            place: leaf.place,
+            verdict,
+        })
+    }
+
+    /// What leaves come to.
+    fn leaves(&self, leaves: &[Leaf]) -> Result<Items<LeafIn>, ScopeFault>
+        ensures { Answers (λ ls. ls) result
+            (spec.each (spec.judged_leaf self.now.scoped.now.entries self.now.«module».now) leaves.now) }
+    {
+        let mut found = Items::new(self.alloc);
+        for leaf in leaves {
+            found.push(self.leaf(leaf)?)?;
+        }
+        Ok(found)
+    }
+
+    /// A theorem.
+    fn theorem(&self, theorem: &TheoremLeaves) -> Result<TheoremIn, ScopeFault>
+        ensures { Answers (λ t. t) result
+            (spec.judged_theorem self.now.scoped.now.entries self.now.«module».now theorem.now) }
+    {
+        let leaves = self.leaves(theorem.leaves.as_slice())?;
+        Ok(TheoremIn {
+            key: theorem.key,
+            name: copy_name(self.alloc, &theorem.name)?,
+            place: theorem.place,
+            cited: Items::from_slice(self.alloc, theorem.cited.as_slice())?,
+            leaves,
+        })
+    }
+
+    /// Theorems.
+    fn theorems(&self, theorems: &[TheoremLeaves]) -> Result<Items<TheoremIn>, ScopeFault>
+        ensures { Answers (λ ts. ts) result
+            (spec.each (spec.judged_theorem self.now.scoped.now.entries self.now.«module».now) theorems.now) }
+    {
+        let mut found = Items::new(self.alloc);
+        for theorem in theorems {
+            found.push(self.theorem(theorem)?)?;
+        }
+        Ok(found)
+    }
+}
+
+/// An equal name.
+fn copy_name(alloc: Global, name: &Option<Text>) -> Result<Option<Text>, Memory>
+    ensures { IfOk result (λ n. n ≡ name.now) }
 {
-    push_header(&mut lines.report, chapter.name.bytes())?;
-    judge_theorems(alloc, lines, scoped, chapter.theorems.as_slice())
+    match name {
+        None => Ok(None),
+        Some(name) => Ok(Some(Text::of(alloc, name.bytes())?)),
+    }
 }
 
-/// Answers the theorems of the modules in order.
-fn judge_chapters(
+/// A module.
+fn judge_module(alloc: Global, scoped: &Scoped, chapter: &Chapter) -> Result<ModuleIn, ScopeFault>
+    ensures { Answers (λ m. m) result (spec.judged_module scoped.now.entries chapter.now) }
+{
+    let judge = Judge {
+        alloc,
+        scoped,
+        module: &chapter.name,
+    };
+    let theorems = judge.theorems(chapter.theorems.as_slice())?;
+    Ok(ModuleIn {
+        name: Text::of(alloc, chapter.name.bytes())?,
+        theorems,
+    })
+}
+
+/// What the leaves of the theorems of all modules come to by the written search, or the first leaf that is not answered yet.
+pub fn judge(
     alloc: Global,
-    lines: &mut Lines,
     scoped: &Scoped,
     chapters: &[Chapter],
-) -> Result<(), Memory>
-    requires { AreStatements chapters.now }
-    ensures lines { OnOk result (lines.new.report.items
-        ≡ lines.old.report.items ++ flat_map (chapter_lines scoped.now.entries) chapters.now) }
-    ensures verdicts { OnOk result (lines.new.verdicts.items
-        ≡ lines.old.verdicts.items ++ flat_map (λ c. map holds c.theorems) chapters.now) }
+) -> Result<Items<ModuleIn>, ScopeFault>
+    ensures { Answers (λ ms. ms) result (spec.judged scoped.now.entries chapters.now) }
 {
+    let mut found = Items::new(alloc);
     for chapter in chapters {
-        judge_chapter(alloc, lines, scoped, chapter)?;
+        found.push(judge_module(alloc, scoped, chapter)?)?;
     }
-    Ok(())
-}
-
-/// How many are true.
-fn count_true(verdicts: &[bool]) -> usize
-    ensures { result ≡ count_by (λ v. v) verdicts.now }
-{
-    verdicts.iter().filter(|verdict| **verdict).count()
-}
-
-/// Answers the theorems of all modules, and makes the report.
-#[tactic(auto, unfolding(crate::specs::Run::report_of))]
-pub fn judge(alloc: Global, outline: &Outline) -> Result<Judged, Memory>
-    requires { AreStatements outline.now.chapters }
-    ensures report { IfOk result (λ j. j.report.items ≡ report_of outline.now) }
-    ensures proved { IfOk result (λ j. j.all_proved ≡ all_hold outline.now) }
-{
-    let mut lines = Lines {
-        report: Vec::new(alloc),
-        verdicts: Vec::new(alloc),
-    };
-    let chapters = outline.chapters.as_slice();
-    judge_chapters(alloc, &mut lines, &outline.scoped, chapters)?;
-    let Lines {
-        mut report,
-        verdicts,
-    } = lines;
-    let verdicts = verdicts.as_slice();
-    let proved = count_true(verdicts);
-    push_count(&mut report, verdicts.len(), proved)?;
-    Ok(Judged {
-        report,
-        all_proved: proved == verdicts.len(),
-    })
+    Ok(found)
 }

@@ -7,10 +7,8 @@
 
 mod judge;
 mod load;
-mod outline;
-mod report;
 mod status;
-mod temporal;
+mod steps;
 mod top;
 mod values;
 mod words;

@@ -1,54 +1,31 @@
 //! The top call.
 
 ghost use Rattle.std.specs.Prelude.{◌≡◌};
-ghost use Rattle.std.specs.List.{All};
 ghost use Rattle.proof_manager.specs.Words.{named_by};
-ghost use Rattle.proof_manager.specs.Run.{theorems_of};
-ghost use Rattle.proof_manager.specs.Causes.{AreStatements, IsJust, IsDecided, WordsCause, ReportCause, Justified, Decided, ShelfCause, SinkCause, IsUnwritten, IsUntouched, Writes};
+ghost use Rattle.proof_manager.specs.Causes.{WordsCause, ReportCause, Justified, Decided, ShelfCause, SinkCause, IsUnwritten, IsUntouched, Writes};
 
-use crate::judge::judge;
 use crate::load::read;
-use crate::outline::Outline;
 use crate::status::Status;
 use crate::words::root;
 use core_expr::Text;
-use formula_answer::{few_connectives_are_decided, proved_holds, saturated_falsifies};
 use module_shelf::LoadFault;
-use seq_calculus::substitution;
+use status_report::{ModuleIn, Style, report};
 use std::alloc::Global;
 use tla_io::{CacheFile, Shelf, Sink, write_whole};
 
-/// What answers mean, for each theorem of the modules.
-#[tactic(auto, using(crate::proofs::Meant::all_just, crate::proofs::Meant::all_decided))]
-fn theorems_are_just(outline: &Outline)
-    requires { AreStatements outline.now.chapters }
-    ensures just { All IsJust (theorems_of outline.now.chapters) }
-    ensures decided { All IsDecided (theorems_of outline.now.chapters) }
-{
-    proved_holds();
-    substitution();
-    saturated_falsifies();
-    few_connectives_are_decided();
-    let _outline = outline;
-}
-
-/// Answers the theorems and writes the report.
-fn answer<K: Sink>(alloc: Global, outline: &Outline, out: &mut K) -> Status
-    requires { AreStatements outline.now.chapters }
-    ensures report { Writes result outline.now (K.taken out.old) (K.taken out.new) }
-    ensures just { All IsJust (theorems_of outline.now.chapters) }
-    ensures decided { All IsDecided (theorems_of outline.now.chapters) }
+/// Makes the report and writes it.
+fn write<K: Sink>(alloc: Global, modules: &[ModuleIn], out: &mut K) -> Status
+    ensures report { Writes result modules.now (K.taken out.old) (K.taken out.new) }
     ensures sink { SinkCause result (K.count out.old) (K.count out.new) }
     ensures unwritten { IsUnwritten result out.old out.new }
 {
-    theorems_are_just(outline);
-    let Ok(judged) = judge(alloc, outline) else {
+    let Ok(made) = report(alloc, modules, Style::Plain) else {
         return Status::Memory;
     };
-    if write_whole(out, judged.report.as_slice()).is_err() {
+    if write_whole(out, made.text.as_slice()).is_err() {
         return Status::WriteFault;
     }
-    if judged.all_proved {
+    if made.proved == made.theorems {
         Status::AllProved
     } else {
         Status::NotAll
@@ -73,8 +50,8 @@ pub fn run<S: Shelf, C: CacheFile, K: Sink>(
     ensures report { ReportCause result (S.folder shelf.old) (named_by words.now.items)
         (K.taken out.old) (K.taken out.new) }
 
-    // Of each theorem: a proof has its derivation, as its full expansion has, a printed valuation falsifies, and few connectives
-    // are decided.
+    // Each theorem that is reported proved has its derivation, with all definitions expanded, from the ASSUMEs before it alone.
+    // A printed valuation falsifies its leaf, and leaves of few connectives are decided.
     ensures answers_justified { Justified result (S.folder shelf.old) (named_by words.now.items) }
     ensures small_decided { Decided result (S.folder shelf.old) (named_by words.now.items) }
 
@@ -91,7 +68,7 @@ pub fn run<S: Shelf, C: CacheFile, K: Sink>(
         return Status::Memory;
     };
     match read(alloc, shelf, &root) {
-        Ok(outline) => answer(alloc, &outline, out),
+        Ok(modules) => write(alloc, modules.as_slice(), out),
         Err(LoadFault::NotFound(name)) => Status::NotFound { name },
         Err(
             LoadFault::Refused {

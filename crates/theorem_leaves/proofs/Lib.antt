@@ -1,1 +1,6 @@
+pub mod Walking
 pub mod Proofs
+pub mod Outlines
+pub mod Gathered
+pub mod Cited
+pub mod Passing

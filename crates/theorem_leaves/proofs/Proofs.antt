@@ -1,5 +1,5 @@
 -- Proofs of the source as plain data, form by form, and the walk over their steps.
-use Rattle.std.proofs.Common.{◌≡◌, ⊥, absurd, ℕ, suc, ◌+◌, List, [], ◌∷◌, ◌++◌, map, append_assoc, refl, sym, ap, ◌∙◌}
+use Rattle.std.proofs.Common.{◌≡◌, ℕ, suc, ◌+◌, List, [], ◌∷◌, ◌++◌, map, append_assoc, refl, sym, ap, ◌∙◌}
 use Rattle.std.specs.Prelude.{Option, Some, None}
 use Rattle.tla_ast.specs.declared.place.Place.{Place}
 use Rattle.tla_ast.specs.declared.tree.Decl.{Decl}
@@ -23,10 +23,11 @@ use Rattle.proof_contexts.specs.Contexts.{Context, given, after}
 use Rattle.proof_contexts.specs.Leaves.{a_leaf, leaves, step_leaves, own_leaves, sub_leaves}
 use Rattle.usable_facts.specs.Keys.{label_key}
 use Rattle.usable_facts.specs.Proofs.{count, count_steps, acts, nexts, proof_of, steps_of}
+use Rattle.theorem_leaves.proofs.Walking.{acts-ended}
 use Rattle.theorem_leaves.specs.Visits.{count_all, State, act, act_all, by_move, visit, visit_all, finished}
 use Rattle.theorem_leaves.specs.Visits.State.{going, ended}
 
-unfoldable each : written → Steps → Steps
+unfoldable pub each : written → Steps → Steps
 each = fold-Step plain.Proof (Steps → Steps) proof_step step_step
 
 pub is-obvious : (p : source) (at : Place) → p ≡ source.Obvious at → plain_proof p ≡ obvious at
@@ -75,35 +76,32 @@ count-in-none p none =
 -- ---- the walk
 
 module _ (table : List Definition) (means : Place → Option ℕ) (cite : Place → Option ℕ) (entries : List Entry) where
-  acts-ended : (q : Place) (as : List Step) (ls : List Leaf) → act_all table means cite entries q as (ended ls) ≡ ended ls
-  acts-ended q [] ls = refl
-  acts-ended q (a ∷ as) ls = acts-ended q as ls
-
   visits-ended : (xs : List written) (ls : List Leaf) → visit_all table means cite entries xs (ended ls) ≡ ended ls
   visits-ended [] ls = refl
   visits-ended (x ∷ xs) ls = visits-ended xs ls
 
   -- steps over cores, and what is behind them
   acts-leaves : (g : State → List Leaf) (k : ℕ) (rest : chain) → ((ls : List Leaf) → g (ended ls) ≡ ls) → ((c : Context) (ls : List Leaf) → g (going k c ls) ≡ ls ++ step_leaves table rest c)
-      → (q : Place) (as : List Step) (c : Context) (ls : List Leaf) → ls ++ step_leaves table (nexts q as rest) c ≡ g (act_all table means cite entries q as (going k c ls))
+      → (q : Place) (xs : List Step) (c : Context) (ls : List Leaf) → ls ++ step_leaves table (nexts q xs rest) c ≡ g (act_all table means cite entries q xs (going k c ls))
   acts-leaves g k rest ge gg q [] c ls = sym (gg c ls)
-  acts-leaves g k rest ge gg q (a ∷ as) c ls = by-after (after table a c)
+  acts-leaves g k rest ge gg q (a ∷ xs) c ls = by-after (after table a c) (λ d ms. acts-leaves g k rest ge gg q xs d ms)
     where
       own : List Leaf
       own = sub_leaves table a c ++ own_leaves table q a c
 
       by-after : (o : Option Context)
-          → ls ++ (own ++ given o (a_leaf q kind.Shape ∷ []) (λ d. step_leaves table (nexts q as rest) d))
-          ≡ g (act_all table means cite entries q as (given o (ended ((ls ++ own) ++ a_leaf q kind.Shape ∷ [])) (λ d. going k d (ls ++ own))))
-      by-after None = sym (append_assoc ls own (a_leaf q kind.Shape ∷ [])) ∙ sym (ge _) ∙ ap g (sym (acts-ended q as _))
-      by-after (Some d) = sym (append_assoc ls own (step_leaves table (nexts q as rest) d)) ∙ acts-leaves g k rest ge gg q as d (ls ++ own)
+          → ((d : Context) (ms : List Leaf) → ms ++ step_leaves table (nexts q xs rest) d ≡ g (act_all table means cite entries q xs (going k d ms)))
+          → ls ++ (own ++ given o (a_leaf q kind.Shape ∷ []) (λ d. step_leaves table (nexts q xs rest) d))
+          ≡ g (act_all table means cite entries q xs (given o (ended ((ls ++ own) ++ a_leaf q kind.Shape ∷ [])) (λ d. going k d (ls ++ own))))
+      by-after None later = sym (append_assoc ls own (a_leaf q kind.Shape ∷ [])) ∙ sym (ge _) ∙ ap g (sym (acts-ended table means cite entries q xs _))
+      by-after (Some d) later = sym (append_assoc ls own (step_leaves table (nexts q xs rest) d)) ∙ later d (ls ++ own)
 
-  steps-leaves : (ss : List written) (p : Place) (n : ℕ) (c : Context) (ls : List Leaf)
+  pub steps-leaves : (ss : List written) (p : Place) (n : ℕ) (c : Context) (ls : List Leaf)
       → ls ++ step_leaves table (steps_of means cite entries p n (joined end_steps (map each ss))) c ≡ finished p (visit_all table means cite entries ss (going n c ls))
   steps-leaves [] p n c ls = refl
   steps-leaves (x ∷ ss) p n c ls =
       ap (λ (f : Steps → Steps). ls ++ step_leaves table (steps_of means cite entries p n (f (joined end_steps (map each ss)))) c) (is-step x)
-      ∙ go (move_of (out-Step x).kind)
+      ∙ go (λ d ms. sym (steps-leaves ss p (suc n + count (plain_proof (out-Step x).proof)) d ms)) (move_of (out-Step x).kind)
     where
       own : plain.Proof
       own = plain_proof (out-Step x).proof
@@ -114,22 +112,22 @@ module _ (table : List Definition) (means : Place → Option ℕ) (cite : Place 
       here : chain
       here = steps_of means cite entries p k (joined end_steps (map each ss))
 
-      there : (c : Context) (ls : List Leaf) → finished p (visit_all table means cite entries ss (going k c ls)) ≡ ls ++ step_leaves table here c
-      there c ls = sym (steps-leaves ss p k c ls)
+      Later : Type 0
+      Later = (c : Context) (ls : List Leaf) → finished p (visit_all table means cite entries ss (going k c ls)) ≡ ls ++ step_leaves table here c
 
-      by-acts : (as : List Step) → ls ++ step_leaves table (nexts (out-Step x).place as here) c ≡ finished p (visit_all table means cite entries ss (act_all table means cite entries (out-Step x).place as (going k c ls)))
-      by-acts as = acts-leaves (λ s. finished p (visit_all table means cite entries ss s)) k here (λ ls. ap (finished p) (visits-ended ss ls)) there (out-Step x).place as c ls
+      by-acts : Later → (xs : List Step) → ls ++ step_leaves table (nexts (out-Step x).place xs here) c ≡ finished p (visit_all table means cite entries ss (act_all table means cite entries (out-Step x).place xs (going k c ls)))
+      by-acts there xs = acts-leaves (λ s. finished p (visit_all table means cite entries ss s)) k here (λ ls. ap (finished p) (visits-ended ss ls)) there (out-Step x).place xs c ls
 
-      go : (m : move) → ls ++ step_leaves table (steps_of means cite entries p n (step (out-Step x).place (out-Step x).level (out-Step x).label m own (joined end_steps (map each ss)))) c
+      go : Later → (m : move) → ls ++ step_leaves table (steps_of means cite entries p n (step (out-Step x).place (out-Step x).level (out-Step x).label m own (joined end_steps (map each ss)))) c
           ≡ finished p (visit_all table means cite entries ss (by_move table means cite entries (out-Step x).place m (label_key n (out-Step x).label) (proof_of means cite entries (out-Step x).place (suc n) own) k c ls))
-      go move.qed = ap (finished p) (sym (visits-ended ss _))
-      go (move.assert s) = by-acts (acts means cite entries (label_key n (out-Step x).label) (move.assert s) (proof_of means cite entries (out-Step x).place (suc n) own))
-      go (move.case t) = by-acts (acts means cite entries (label_key n (out-Step x).label) (move.case t) (proof_of means cite entries (out-Step x).place (suc n) own))
-      go (move.suffices s) = by-acts (acts means cite entries (label_key n (out-Step x).label) (move.suffices s) (proof_of means cite entries (out-Step x).place (suc n) own))
-      go (move.have t) = by-acts (acts means cite entries (label_key n (out-Step x).label) (move.have t) (proof_of means cite entries (out-Step x).place (suc n) own))
-      go (move.take gs) = by-acts (acts means cite entries (label_key n (out-Step x).label) (move.take gs) (proof_of means cite entries (out-Step x).place (suc n) own))
-      go (move.witness ts) = by-acts (acts means cite entries (label_key n (out-Step x).label) (move.witness ts) (proof_of means cite entries (out-Step x).place (suc n) own))
-      go (move.pick gs t) = by-acts (acts means cite entries (label_key n (out-Step x).label) (move.pick gs t) (proof_of means cite entries (out-Step x).place (suc n) own))
-      go (move.define ds) = by-acts (acts means cite entries (label_key n (out-Step x).label) (move.define ds) (proof_of means cite entries (out-Step x).place (suc n) own))
-      go (move.add fs ds) = by-acts (acts means cite entries (label_key n (out-Step x).label) (move.add fs ds) (proof_of means cite entries (out-Step x).place (suc n) own))
-      go (move.hide fs ds) = by-acts (acts means cite entries (label_key n (out-Step x).label) (move.hide fs ds) (proof_of means cite entries (out-Step x).place (suc n) own))
+      go there move.qed = ap (finished p) (sym (visits-ended ss _))
+      go there (move.assert s) = by-acts there (acts means cite entries (label_key n (out-Step x).label) (move.assert s) (proof_of means cite entries (out-Step x).place (suc n) own))
+      go there (move.case t) = by-acts there (acts means cite entries (label_key n (out-Step x).label) (move.case t) (proof_of means cite entries (out-Step x).place (suc n) own))
+      go there (move.suffices s) = by-acts there (acts means cite entries (label_key n (out-Step x).label) (move.suffices s) (proof_of means cite entries (out-Step x).place (suc n) own))
+      go there (move.have t) = by-acts there (acts means cite entries (label_key n (out-Step x).label) (move.have t) (proof_of means cite entries (out-Step x).place (suc n) own))
+      go there (move.take gs) = by-acts there (acts means cite entries (label_key n (out-Step x).label) (move.take gs) (proof_of means cite entries (out-Step x).place (suc n) own))
+      go there (move.witness ts) = by-acts there (acts means cite entries (label_key n (out-Step x).label) (move.witness ts) (proof_of means cite entries (out-Step x).place (suc n) own))
+      go there (move.pick gs t) = by-acts there (acts means cite entries (label_key n (out-Step x).label) (move.pick gs t) (proof_of means cite entries (out-Step x).place (suc n) own))
+      go there (move.define ds) = by-acts there (acts means cite entries (label_key n (out-Step x).label) (move.define ds) (proof_of means cite entries (out-Step x).place (suc n) own))
+      go there (move.add fs ds) = by-acts there (acts means cite entries (label_key n (out-Step x).label) (move.add fs ds) (proof_of means cite entries (out-Step x).place (suc n) own))
+      go there (move.hide fs ds) = by-acts there (acts means cite entries (label_key n (out-Step x).label) (move.hide fs ds) (proof_of means cite entries (out-Step x).place (suc n) own))

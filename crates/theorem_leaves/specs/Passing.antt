@@ -4,7 +4,7 @@ use Rattle.tla_ast.specs.declared.place.Place.{Place}
 use Rattle.obligation.specs.declared.obligation.Definition.{Definition}
 use Rattle.symbol_table.specs.declared.entry.Entry.{Entry}
 use Rattle.symbol_table.specs.Scoped.{Table, symbol}
-use Rattle.plain_syntax.specs.Plain.{Text, Unit, UnitKind as u, Module}
+use Rattle.plain_syntax.specs.Plain.{Text, Unit as written, UnitKind as u, Module}
 use Rattle.proof_contexts.specs.Contexts.{Context}
 use Rattle.proof_contexts.specs.Theorems.{Known, entry_of}
 use Rattle.known_facts.specs.Shown.{context_of}
@@ -51,7 +51,7 @@ module _ (table : List Definition) (is_theorem : ℕ → Bool) (entries : List E
         theorems = a.theorems ++ unit_reported table is_theorem entries means a.before (a.front ++ a.adds) p k;
       }
 
-  abbrev pub pass_units : Means → List Unit → At → At
+  abbrev pub pass_units : Means → List written → At → At
   pass_units means [] a = a
   pass_units means (x ∷ xs) a = pass_units means xs (pass_unit means x.place x.kind a)
 

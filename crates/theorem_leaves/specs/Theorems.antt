@@ -18,7 +18,6 @@ use Rattle.proof_contexts.specs.Theorems.{Known}
 use Rattle.known_facts.specs.declared.item.Statement.{Statement}
 use Rattle.known_facts.specs.Shown.{items_of}
 use Rattle.known_facts.specs.Clean.{definitions_of}
-use Rattle.proof_outline.specs.declared.meaning.Outline.{Outline}
 use Rattle.proof_outline.specs.Outline.{outline}
 use Rattle.usable_facts.specs.Proofs.{proof_of}
 use Rattle.usable_facts.specs.Definitions.{Means}
@@ -48,9 +47,9 @@ module _ (s : Setting) where
   is_theorem = has_number s.theorems.now.keys
 
   -- the leaves of the proof at a place, of a statement, where the context before it is c
-  abbrev pub LeavesOf : Outline → Place → source → Statement → Context → List Leaf → Type 0
+  abbrev pub LeavesOf : List (Place × ℕ) → Place → source → Statement → Context → List Leaf → Type 0
   LeavesOf o p x st c ls =
-      ls ≡ leaves table (proof_of means (symbol_at o.now) entries p 0 (plain_proof x)) (with_goal (with_items None (items_of st.items) c) st.goal)
+      ls ≡ leaves table (proof_of means (symbol_at o) entries p 0 (plain_proof x)) (with_goal (with_items None (items_of st.items) c) st.goal)
 
   -- the theorem with its leaves, where so many theorems stand before it and these facts are known
   abbrev pub IsReported : ℕ → List Known → Written → TheoremLeaves → Type 0

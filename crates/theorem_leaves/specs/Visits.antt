@@ -47,7 +47,7 @@ module _ (table : List Definition) (means : Place → Option ℕ) (cite : Place 
 
   abbrev pub act_all : Place → List Step → State → State
   act_all q [] s = s
-  act_all q (a ∷ as) s = act_all q as (act q a s)
+  act_all q (a ∷ xs) s = act_all q xs (act q a s)
 
   -- what a step does, where its proof is this one, and this is the number of the step after it
   abbrev pub by_move : Place → move → Option ℕ → Proof → ℕ → Context → List Leaf → State

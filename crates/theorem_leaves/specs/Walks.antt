@@ -1,9 +1,9 @@
 -- What the functions of the walk do: ls are the leaves before, ms those after; c is the context before, d the one after.
-use Rattle.std.specs.Prelude.{◌≡◌, ℕ, suc, Bool, if◌then◌else◌, List, [], ◌∷◌, ◌++◌, map, Option, Some, None}
+use Rattle.std.specs.Prelude.{◌≡◌, ℕ, suc, ◌+◌, Bool, if◌then◌else◌, List, [], ◌∷◌, ◌++◌, map, Option, Some, None}
 use Rattle.tla_ast.specs.declared.place.Place.{Place}
 use Rattle.tla_ast.specs.declared.tree.Decl.{Decl}
 use Rattle.tla_ast.specs.declared.unit.Fact.{Fact as source_fact}
-use Rattle.tla_ast.specs.declared.unit.Step.{Step as source_step}
+use Rattle.tla_ast.specs.declared.unit.Step.{Step as source_step, out-Step}
 use Rattle.tla_ast.specs.declared.unit.Proof.{Proof as source}
 use Rattle.obligation.specs.declared.obligation.Definition.{Definition}
 use Rattle.symbol_table.specs.declared.entry.Entry.{Entry}
@@ -19,12 +19,19 @@ use Rattle.known_facts.specs.Clean.{definitions_of}
 use Rattle.proof_leaves.specs.declared.step.Move.{Move}
 use Rattle.proof_leaves.specs.declared.step.Claim.{Claim}
 use Rattle.proof_leaves.specs.Shown.{step_of, claim_of}
-use Rattle.usable_facts.specs.Proofs.{proof_of}
+use Rattle.usable_facts.specs.Keys.{label_key}
+use Rattle.usable_facts.specs.Proofs.{count, proof_of}
 use Rattle.written_steps.specs.Homes as homes
 use Rattle.theorem_leaves.specs.declared.walk.Walker.{Walker}
 use Rattle.theorem_leaves.specs.declared.walk.Stand.{Stand}
 use Rattle.theorem_leaves.specs.Visits.{State, state_of, act_all, visit, visit_all, finished}
 use Rattle.theorem_leaves.specs.Visits.State.{going}
+
+-- where a step with this number stands
+abbrev pub stand_of : ℕ → source_step → Stand
+stand_of n x =
+    let y = out-Step x in
+    record { place = y.place; label = label_key n y.label; first = suc n; next = suc n + count (plain_proof y.proof) }
 
 module _ (w : Walker) where
   abbrev pub table : List Definition
@@ -54,12 +61,12 @@ module _ (w : Walker) where
   -- steps without proofs of their own, where the proof goes on or not
   abbrev pub MakesAll : Stand → List Move → Context → List Leaf → Bool → Context → List Leaf → Type 0
   MakesAll s xs c ls on d ms =
-      (k : ℕ) → act_all table means cite entries s.place (map (step_of s.label) xs) (going k c ls) ≡ state_of (if on then Some k else None) d ms
+      act_all table means cite entries s.place (map (step_of s.label) xs) (going s.next c ls) ≡ state_of (if on then Some s.next else None) d ms
 
   -- a step with a proof of its own
   abbrev pub Claims : Stand → Claim → source → Context → List Leaf → Context → List Leaf → Type 0
   Claims s x own c ls d ms =
-      (k : ℕ) → act_all table means cite entries s.place (claim_of s.label x (proof_at s.place s.first own) ∷ []) (going k c ls) ≡ going k d ms
+      act_all table means cite entries s.place (claim_of s.label x (proof_at s.place s.first own) ∷ []) (going s.next c ls) ≡ going s.next d ms
 
   -- a step with this number, and the number of the next
   abbrev pub Visits : source_step → ℕ → Context → List Leaf → Option ℕ → Context → List Leaf → Type 0

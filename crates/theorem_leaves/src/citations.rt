@@ -21,7 +21,7 @@ pub struct Citations<'a> {
 
 impl Citations<'_> {
     /// Whether a key is a theorem's.
-    #[tactic(auto, using(crate::proofs::Keys::among_is))]
+    #[tactic(auto, using(crate::proofs::Gathered::among_is))]
     fn is_theorem(&self, key: u64) -> bool
         ensures { result ≡ has_number self.now.theorems.now.keys key }
     {

@@ -1,11 +1,16 @@
 //! The leaves of all theorems.
 //!
-//! To the layers above this crate promises that the leaves of each theorem of the modules are exactly those of the definitions of
-//! proof contexts: [`chapters`].
+//! To the layers above this crate promises that [`chapters`] gives each theorem of the modules with its leaves, exactly those of the
+//! definitions of proof contexts: in the context of what is known before it, step by step; and the theorems that its proof cites.
 #![tactic(auto)]
 
 mod chapter;
+mod citations;
+mod keys;
+mod modules;
 mod number;
+mod units;
 mod walk;
 
 pub use chapter::{Chapter, TheoremLeaves};
+pub use modules::chapters;

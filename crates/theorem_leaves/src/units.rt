@@ -1,6 +1,6 @@
 //! The theorems of units.
 
-ghost use Rattle.std.specs.Prelude.{◌≡◌, map, IfOk, OnOk};
+ghost use Rattle.std.specs.Prelude.{◌≡◌, [], List, IfOk, OnOk};
 ghost use Rattle.proof_contexts.specs.Expansion.{has_number};
 ghost use Rattle.proof_contexts.specs.Theorems.{Known as known};
 ghost use Rattle.plain_syntax.specs.Syntax.{kind_of, unit_of, statement_of};
@@ -53,8 +53,19 @@ pub struct Reading {
     pub theorems: Items<TheoremLeaves>,
 }
 
+/// No step names.
+#[tactic(auto, using(crate::proofs::Outlines::none_cited))]
+fn no_names(alloc: Global) -> Result<Outline, Memory>
+    ensures { IfOk result (λ o. o ≡ []) }
+{
+    match outline(alloc, &Proof::Missing) {
+        Ok(names) => Ok(names),
+        Err(OutlineFault::Memory) => Err(Memory),
+        Err(OutlineFault::At { .. }) => unreachable!(),
+    }
+}
+
 /// What the step names of a proof mean; nothing where they have a fault.
-#[tactic(auto, unfolding(crate::specs::Theorems::none_cited))]
 fn outline_of(alloc: Global, proof: &Proof) -> Result<Outline, Memory>
     ensures { IfOk result (λ o. o ≡ cites_in (outlines.outline (plain_proof proof.now))) }
 {
@@ -86,7 +97,8 @@ impl Setting<'_> {
         proof: &Proof,
     ) -> Result<Items<Leaf>, Memory>
         requires { HasSuspects self.now.table.now }
-        ensures leaves { IfOk result (LeavesOf self.now outline place proof.now statement.now (context_of context.old)) }
+        ensures leaves { IfOk result (LeavesOf self.now outline.now place
+            proof.now statement.now (context_of context.old)) }
         ensures kept { OnOk result (context_of context.new ≡ context_of context.old) }
     {
         let alloc = self.home.alloc;
@@ -113,7 +125,7 @@ impl Setting<'_> {
         theorem: Written,
     ) -> Result<TheoremLeaves, Memory>
         requires { HasSuspects self.now.table.now }
-        ensures reported { IfOk result (λ r. (ks : List known) → IsBase ks (context_of context.old) → IsReported self.now before ks theorem r) }
+        ensures reported { IfOk result (λ r. (ks : List known) → IsBase ks (context_of context.old) → IsReported self.now before ks theorem.entry r) }
         ensures kept { OnOk result (context_of context.new ≡ context_of context.old) }
     {
         let alloc = self.home.alloc;

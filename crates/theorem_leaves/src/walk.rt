@@ -4,7 +4,7 @@ ghost use Rattle.std.specs.Prelude.{◌≡◌, OnOk, IfOk};
 ghost use Rattle.known_facts.specs.Shown.{context_of};
 ghost use Rattle.known_facts.specs.Clean.{HasSuspects};
 ghost use Rattle.known_facts.specs.Grown.{Grown};
-ghost use Rattle.theorem_leaves.specs.Walks.{AnswersBy, MakesAll, Claims, Visits, VisitsAll, Answers};
+ghost use Rattle.theorem_leaves.specs.Walks.{stand_of, AnswersBy, MakesAll, Claims, Visits, VisitsAll, Answers};
 
 use crate::number::number_after;
 use core_expr::Memory;
@@ -24,12 +24,27 @@ pub struct Walker<'a> {
     pub outline: &'a Outline,
 }
 
-/// Where a step stands: its place, the number by which it is cited, and that of the first step of its own proof.
+/// Where a step stands: its place, the number by which it is cited, that of the first step of its own proof, and that of the step
+/// after it.
 #[derive(Clone, Copy)]
 struct Stand {
     place: Place,
     label: Option<u64>,
     first: u64,
+    next: u64,
+}
+
+/// Where a step with this number stands.
+fn stand_of(number: u64, step: &Step) -> Result<Stand, Memory>
+    ensures { IfOk result (λ s. s ≡ stand_of number step.now) }
+{
+    let first = number.checked_add(1).ok_or(Memory)?;
+    Ok(Stand {
+        place: step.place,
+        label: label_key(number, step.label.bytes())?,
+        first,
+        next: number_after(first, &step.proof)?,
+    })
 }
 
 impl Walker<'_> {
@@ -114,27 +129,23 @@ impl Walker<'_> {
         ensures grown { OnOk result
             (Grown (context_of context.old).known (context_of context.new).known) }
     {
-        let stand = Stand {
-            place: step.place,
-            label: label_key(number, step.label.bytes())?,
-            first: number.checked_add(1).ok_or(Memory)?,
-        };
-        let goes_on = match self.home.written(self.outline, &step.kind)? {
+        let stand = stand_of(number, step)?;
+        match self.home.written(self.outline, &step.kind)? {
             Written::Qed => {
                 self.proof(context, stand.place, stand.first, &step.proof, leaves)?;
-                false
+                Ok(None)
             }
             Written::Claimed(claim) => {
                 self.claim(context, stand, claim, &step.proof, leaves)?;
-                true
+                Ok(Some(stand.next))
             }
-            Written::Moves(steps) => self.make_all(context, stand, steps.as_slice(), leaves)?,
-        };
-        if !goes_on {
-            return Ok(None);
+            Written::Moves(steps) => {
+                if !self.make_all(context, stand, steps.as_slice(), leaves)? {
+                    return Ok(None);
+                }
+                Ok(Some(stand.next))
+            }
         }
-        let next = number_after(stand.first, &step.proof)?;
-        Ok(Some(next))
     }
 
     /// The steps of a proof at this place, the first of which has this number.

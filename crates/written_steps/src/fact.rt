@@ -24,7 +24,7 @@ impl Home<'_> {
     }
 
     /// The numbers by which HIDE names facts.
-    pub(crate) fn hidden(&self, outline: &Outline, facts: &[Source]) -> Result<Items<u64>, Memory>
+    pub fn hidden(&self, outline: &Outline, facts: &[Source]) -> Result<Items<u64>, Memory>
         ensures { IfOk result (λ ns. ns ≡ spec.hidden (means self.now)
             (symbol_at outline.now) (entries self.now) (map syntax.fact_of facts.now)) }
     {
