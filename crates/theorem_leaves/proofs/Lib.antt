@@ -1,4 +1,5 @@
 pub mod Walking
+pub mod Stepping
 pub mod Proofs
 pub mod Outlines
 pub mod Gathered

@@ -76,7 +76,7 @@ count-in-none p none =
 -- ---- the walk
 
 module _ (table : List Definition) (means : Place → Option ℕ) (cite : Place → Option ℕ) (entries : List Entry) where
-  visits-ended : (xs : List written) (ls : List Leaf) → visit_all table means cite entries xs (ended ls) ≡ ended ls
+  pub visits-ended : (xs : List written) (ls : List Leaf) → visit_all table means cite entries xs (ended ls) ≡ ended ls
   visits-ended [] ls = refl
   visits-ended (x ∷ xs) ls = visits-ended xs ls
 
