@@ -3,7 +3,6 @@ use Rattle.std.specs.Prelude.{◌≡◌, ℕ, suc, ◌<◌, ◌≤◌, Bool, tru
 use Rattle.std.proofs.Common.{refl, ap, sym, ◌∙◌, subst, arith, le_trans, append_assoc, append-nil}
 use Rattle.std.proofs.lemmas.Bool.{and_parts, eqb-true}
 use Rattle.std.proofs.lemmas.List.{reverse-append}
-use Rattle.core_expr.specs.declared.head.Sym.{Sym}
 use Rattle.core_expr.specs.declared.head.SymKind.{SymKind}
 use Rattle.core_expr.specs.declared.head.SymKind.TheVariants as sym_kind
 use Rattle.core_expr.specs.declared.canon.Canon.{Canon}
@@ -18,7 +17,7 @@ use Rattle.seq_calculus.specs.Calculus.{AllClosed}
 use Rattle.valuation.specs.Truth.{both, is_propositional, are_propositional}
 use Rattle.tableau_definition.specs.Propositional.{Formula, Formulas, IsNumbered, AreNumbered}
 use Rattle.tableau_definition.specs.Propositional.Formula.{f_true, f_false, f_symbol, f_not, f_and, f_or, f_imp, f_iff}
-use Rattle.sequent_answer.specs.Forms.{is_canon, is_canonical, all_canonical, are_canonical, is_propositional_canon, above, all_above, each_above, symbol_count}
+use Rattle.sequent_answer.specs.Forms.{is_canon, is_canonical, are_canonical, is_propositional_canon, above, all_above, each_above, symbol_count}
 use Rattle.sequent_answer.specs.Answer.{numeral}
 use Rattle.sequent_answer.specs.Nodes.{over_rows, head_of, joined_by, headed, stacked, pushed, all_pushed}
 use Rattle.sequent_answer.specs.declared.formula.Connective.{Connective}

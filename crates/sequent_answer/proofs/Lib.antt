@@ -5,3 +5,4 @@ pub mod Formed
 pub mod Meant
 pub mod Renumbered
 pub mod Counting
+pub mod Worked

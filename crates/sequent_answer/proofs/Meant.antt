@@ -1,11 +1,9 @@
 -- The answer to a canonical form, and what answers mean: derivations, valuations, enough turns.
-use Rattle.std.specs.Prelude.{◌≡◌, ◌≤◌, ◌+◌, ◌^◌, ℕ, zero, suc, Bool, true, false, List, [], ◌∷◌, ◌++◌, reverse, length}
+use Rattle.std.specs.Prelude.{◌≡◌, ◌≤◌, ◌+◌, ◌^◌, ℕ, zero, suc, Bool, true, false, List, [], ◌∷◌, reverse, length}
 use Rattle.std.proofs.Common.{refl, ap, sym, ◌∙◌, arith, subst, lit<, lit≤, le_trans, append-nil}
 use Rattle.std.proofs.lemmas.List.{reverse-reverse}
 use Rattle.std.proofs.Math.Nat.{pow-le-pow_right}
 use Rattle.core_expr.specs.declared.canon.Canon.{Canon}
-use Rattle.core_expr.specs.Tree.{Tree}
-use Rattle.core_expr.specs.Flat.{top, rest}
 use Rattle.tableau_definition.specs.Branches.{Branch, has}
 use Rattle.tableau_definition.specs.Search.{End, search}
 use Rattle.tableau_definition.specs.Search.End.{Closed, Saturated as Open, Spent as Cut}
@@ -16,9 +14,9 @@ use Rattle.propositional_search.specs.declared.search.Answer.TheVariants.{Proved
 use Rattle.propositional_search.specs.Answers.{valuation, valuation_from}
 use Rattle.sequent_answer.specs.Forms.{is_propositional_canon, symbol_count}
 use Rattle.sequent_answer.specs.Answer.{numeral, turn_limit, answer_for, end_of, answer, is_proved, HasValues}
-use Rattle.sequent_answer.specs.Nodes.{pushed, all_pushed, stack_of, answer_on}
+use Rattle.sequent_answer.specs.Nodes.{all_pushed, stack_of, answer_on}
 use Rattle.sequent_answer.specs.Laws.{ProvedDerives, ProvedIsValid, SaturatedFalsifies, FewConnectivesEnd, FewConnectivesDecide}
-use Rattle.sequent_answer.proofs.Formed.{Form, Forms, canon-formed, form-pushed, forms-pushed, form-closed, forms-closed, form-formula, forms-formulas, form-numbered, forms-numbered}
+use Rattle.sequent_answer.proofs.Formed.{canon-formed, form-pushed, forms-pushed, form-closed, forms-closed, form-formula, forms-formulas, form-numbered, forms-numbered}
 
 -- the nodes of a form put its goal on the stack, and its facts below it
 stack-is : (c : Canon) → is_propositional_canon c ≡ true → stack_of c.facts c.goal ≡ c.goal ∷ reverse c.facts

@@ -161,11 +161,7 @@ fn place_of_kind(
 }
 
 /// Puts the formula that a node of this kind makes in the place of its operands.
-fn push_kind(
-    formulas: &mut Formulas,
-    stack: &mut Vec<usize>,
-    kind: RowKind,
-) -> Result<(), Memory>
+fn push_kind(formulas: &mut Formulas, stack: &mut Vec<usize>, kind: RowKind) -> Result<(), Memory>
     requires { All (λ i. i < length formulas.old) stack.old.items }
     ensures stack { OnOk result (All (λ i. i < length formulas.new) stack.new.items) }
     ensures formulas { OnOk result (trees_at formulas.new stack.new.items
