@@ -1,0 +1,4 @@
+pub mod Forms
+pub mod Answer
+pub mod Nodes
+pub mod Laws

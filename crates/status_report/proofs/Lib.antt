@@ -1,0 +1,4 @@
+pub mod Pieces
+pub mod Worst
+pub mod Telling
+pub mod Agreeing

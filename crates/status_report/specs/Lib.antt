@@ -1,0 +1,5 @@
+pub mod Texts
+pub mod Statuses
+pub mod Report
+pub mod Telling
+pub mod Laws
