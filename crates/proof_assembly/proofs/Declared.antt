@@ -31,19 +31,19 @@ use Rattle.prime_expand.specs.declared.both.Both.{Both}
 use Rattle.prime_expand.specs.Core.{bodies, flags_in}
 use Rattle.prime_expand.specs.Fine.{Fine, with_decls}
 use Rattle.prime_expand.specs.Laws.{Holds}
-use Rattle.scope_laws.specs.Places.{places, set_places, decl_places, definition_places}
-use Rattle.scope_laws.specs.States.{is_bound, gives, is_allowed}
-use Rattle.scope_laws.proofs.Named.{clash, Result, body_walk}
-use Rattle.scope_laws.specs.Laws.{body_names}
-use Rattle.scope_laws.proofs.Walks.{each_map}
-use Rattle.scope_laws.proofs.Fitting.{bodies_are_in_scope}
+use Rattle.name_places.specs.Places.{places, set_places, decl_places, definition_places}
+use Rattle.proof_assembly.specs.States.{is_bound, gives, is_allowed}
+use Rattle.proof_assembly.proofs.Named.{clash, Result, body_walk}
+use Rattle.proof_assembly.specs.ScopeLaws.{body_names}
+use Rattle.proof_assembly.proofs.Walks.{each_map}
+use Rattle.proof_assembly.proofs.Fitting.{bodies_are_in_scope}
 use Rattle.proof_contexts.specs.Steps.{Item as item}
 use Rattle.proof_contexts.specs.Right.{level_items, IsFirst, AreOrdered}
 use Rattle.proof_contexts.specs.Expansion.{IsBelow}
 use Rattle.proof_contexts.proofs.Putting.{Below-more}
 use Rattle.usable_facts.specs.Proofs.{symbol, core, items, chosen}
 use Rattle.usable_facts.specs.Definitions.{of_level, numbered, each_definition}
-use Rattle.proof_assembly.specs.Places.{items_places, statement_places, named_places, group_places, chosen_places}
+use Rattle.name_places.specs.Places.{items_places, statement_places, named_places, group_places, chosen_places}
 use Rattle.proof_assembly.specs.Scopes.{InScope, With, IsClosedOver, AreOver, AreNew}
 use Rattle.proof_assembly.specs.Ranks.{rank, is_defined_kind}
 use Rattle.proof_assembly.proofs.Items.{Only-more, Only-below}

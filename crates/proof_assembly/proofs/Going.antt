@@ -20,11 +20,11 @@ use Rattle.module_scope.specs.Names.Book.{book}
 use Rattle.prime_expand.specs.Fine.{Fine}
 use Rattle.prime_expand.specs.Laws.{Holds, SymbolsFine}
 use Rattle.prime_expand.proofs.CoreFine.{core_over}
-use Rattle.scope_laws.specs.Places.{Apart, places}
-use Rattle.scope_laws.specs.States.{IsPrefix, Each, Free, Known, Later, is_bound, gives, is_allowed}
-use Rattle.scope_laws.proofs.Walks.{prefix_self, prefix_over, prefix_take, get_prefix, length_last, each_map, each_append, symbol_prefix, noted_here, noted_apart, noted_prefix, has_left, has_right, free_left, free_right}
-use Rattle.scope_laws.proofs.Named.{Reaches, Result, IsHere, clash, refused_never, names_walk}
-use Rattle.scope_laws.proofs.Fitting.{names_are_fine}
+use Rattle.name_places.specs.Places.{Apart, places}
+use Rattle.proof_assembly.specs.States.{IsPrefix, Each, Free, Known, Later, is_bound, gives, is_allowed}
+use Rattle.proof_assembly.proofs.Walks.{prefix_self, prefix_over, prefix_take, get_prefix, length_last, each_map, each_append, symbol_prefix, noted_here, noted_apart, noted_prefix, has_left, has_right, free_left, free_right}
+use Rattle.proof_assembly.proofs.Named.{Reaches, Result, IsHere, clash, refused_never, names_walk}
+use Rattle.proof_assembly.proofs.Fitting.{names_are_fine}
 use Rattle.usable_facts.specs.Proofs.{core}
 use Rattle.proof_assembly.specs.Scopes.{InScope, IsClosedOver}
 use Rattle.proof_assembly.proofs.Items.{Only-more}

@@ -25,7 +25,8 @@ use Rattle.proof_contexts.proofs.Reported.{all_reported}
 use Rattle.usable_facts.specs.Keys.{theorem_key, entry_key, unnamed_key}
 use Rattle.usable_facts.specs.Theorems.{unit_adds, unit_theorem, units_adds, units_theorems, number_of, earlier, statement_fact, theorem_of, Done, reached_by, is_done, reaches, is_reached, brought, modules_theorems, joined, all_theorems, keys_of, is_theorem_of}
 use Rattle.usable_facts.specs.Definitions.{definitions_of}
-use Rattle.proof_assembly.specs.Laws.{NotNamed, NamesDiffer, ReportedDerives, EachDerives, StatusesAreJustified}
+use Rattle.name_places.specs.Places.{NotNamed, NamesDiffer}
+use Rattle.proof_assembly.specs.Laws.{ReportedDerives, EachDerives, StatusesAreJustified}
 use Rattle.proof_assembly.specs.Ranks.{rank}
 use Rattle.proof_assembly.proofs.Units.{AllRight, KeyedUnit, KeyedUnits}
 use Rattle.proof_assembly.proofs.Modules.{KeyedModules, all_right}

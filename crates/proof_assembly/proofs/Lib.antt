@@ -1,3 +1,6 @@
+pub mod Walks
+pub mod Named
+pub mod Fitting
 pub mod Items
 mod Going
 mod Declared

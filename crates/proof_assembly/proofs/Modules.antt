@@ -22,15 +22,15 @@ use Rattle.module_scope.specs.Scope.{Scope, found}
 use Rattle.module_scope.specs.Names.{Book, scope_of, entries_of, symbols_of, faults_of, each, unit}
 use Rattle.module_scope.specs.Names.Book.{book}
 use Rattle.module_scope.specs.Resolution.{library_entry, distinct, library_entries, given, library_scope, Exports, exported, brought as names_of, first_clash, told, unknown, extend, comes_before, sooner, least, emptied, module_names, start, after_module, resolved, resolution}
-use Rattle.scope_laws.specs.Places.{AllApart}
-use Rattle.scope_laws.specs.States.{IsPrefix, Each, Free, is_bound}
-use Rattle.scope_laws.proofs.Walks.{prefix_self, get_prefix, each_map, each_append}
+use Rattle.name_places.specs.Places.{AllApart}
+use Rattle.proof_assembly.specs.States.{IsPrefix, Each, Free, is_bound}
+use Rattle.proof_assembly.proofs.Walks.{prefix_self, get_prefix, each_map, each_append}
 use Rattle.proof_contexts.specs.Theorems.{Theorem}
 use Rattle.proof_contexts.specs.Right.{AreOrdered, RightKnown}
 use Rattle.usable_facts.specs.Definitions.{in_units, in_modules, definitions_of}
 use Rattle.usable_facts.specs.Theorems.{units_theorems, units_adds, Done, reaches, is_reached, brought, modules_theorems, joined, all_theorems}
-use Rattle.proof_assembly.specs.Places.{module_places}
-use Rattle.proof_assembly.specs.Laws.{PlacesDiffer}
+use Rattle.name_places.specs.Places.{module_places}
+use Rattle.name_places.specs.Places.{PlacesDiffer}
 use Rattle.proof_assembly.specs.Ranks.{rank, is_defined_kind}
 use Rattle.proof_assembly.proofs.Going.{Numbers, over, under, Back, refused_not, Gives, Scoped}
 use Rattle.proof_assembly.proofs.Declared.{Between, Defines, defines_none, defines_append}

@@ -27,9 +27,9 @@ use Rattle.module_scope.specs.Scope.{Scope, found}
 use Rattle.module_scope.specs.Names.{Book, Walk, ◌>>◌, scope_of, entries_of, left, with_more, inside, unseen_in, each, entry, refused, stands, is_fact as is_fact_name, is_definition, of_sort, alone, each_alone, stated, chosen as choose, define, cited, cited_as, fact_of as fact_number, named_fact, fact_names, unfolded, facts as walk_facts, move_names, proof_names, steps_names, levels_of, means, fresh, has_any, declare, fresh_name, fact_name as name_walk, assumed_at, assumed, assumption, theorem, unit_names, unit}
 use Rattle.module_scope.specs.Names.Book.{book}
 use Rattle.prime_expand.specs.Symbols.{is_word}
-use Rattle.scope_laws.specs.Places.{places, all_places}
-use Rattle.scope_laws.proofs.Walks.{get_prefix, each_found}
-use Rattle.scope_laws.specs.States.{is_bound}
+use Rattle.name_places.specs.Places.{places, all_places}
+use Rattle.proof_assembly.proofs.Walks.{get_prefix, each_found}
+use Rattle.proof_assembly.specs.States.{is_bound}
 use Rattle.proof_contexts.specs.Steps.{Item as item, Fact as fact, Proof as proof, Steps as chain, Step as act}
 use Rattle.proof_contexts.specs.Contexts.{fact_of}
 use Rattle.proof_contexts.specs.Right.{IsGood, level_items, level_after, RightFacts, RightProof, RightSteps, RightStep, RightItems, RightKnown, RightTheorem}
@@ -42,7 +42,7 @@ use Rattle.usable_facts.specs.Keys.{label_key}
 use Rattle.usable_facts.specs.Proofs.{count, symbol, is_fact, core, items, chosen, takes, nexts, by_step, by_term, if_fact, fact_name, facts, hidden, definitions as names_after, defined, witness, witnesses, acts, proof_of, steps_of}
 use Rattle.usable_facts.specs.Definitions.{in_move, in_proof, in_steps, each_definition, in_unit, in_units}
 use Rattle.usable_facts.specs.Theorems.{number_of, cites_in, earlier, statement_fact, unit_adds, theorem_of, unit_theorem, units_theorems, units_adds}
-use Rattle.proof_assembly.specs.Places.{statement_places, facts_places, named_places, move_places, proof_places, steps_places, name_places, unit_places, units_places}
+use Rattle.name_places.specs.Places.{statement_places, facts_places, named_places, move_places, proof_places, steps_places, name_places, unit_places, units_places}
 use Rattle.proof_assembly.specs.Scopes.{InScope, With, IsClosedOver, AreOver, AreNew}
 use Rattle.proof_assembly.specs.Ranks.{rank, is_defined_kind}
 use Rattle.proof_assembly.proofs.Items.{Only-below, with_below, right_fact, right_picked}

@@ -9,7 +9,6 @@ use Rattle.symbol_table.specs.Scoped.{Table}
 use Rattle.module_scope.specs.Resolution.{resolution}
 use Rattle.prime_expand.specs.Laws.{Holds}
 use Rattle.prime_expand.specs.Symbols.{is_word}
-use Rattle.scope_laws.specs.Places.{AllApart}
 use Rattle.proof_contexts.specs.Steps.{Item}
 use Rattle.proof_contexts.specs.Contexts.{fact_of, picked}
 use Rattle.proof_contexts.specs.Statuses.{Verdict, Status, is_proved, statuses, IsReported}
@@ -18,7 +17,7 @@ use Rattle.proof_contexts.specs.Right.{RightItems}
 use Rattle.proof_contexts.specs.Laws.{IsSound}
 use Rattle.usable_facts.specs.Definitions.{definitions_of}
 use Rattle.usable_facts.specs.Theorems.{all_theorems, is_theorem_of}
-use Rattle.proof_assembly.specs.Places.{module_places}
+use Rattle.name_places.specs.Places.{NamesDiffer, PlacesDiffer}
 use Rattle.proof_assembly.specs.Scopes.{AreOver, AreNew}
 
 -- A statement whose symbols are in scope where they stand is right, where those in scope before it have ranks below n; so are the
@@ -28,21 +27,6 @@ InScopeIsRight =
     (rank : Sym → ℕ) (table : List Definition) (is_known : Sym → ℕ → Bool) (n : ℕ) (is : List Item) (g : Tree)
     → ((f : Sym) (k : ℕ) → IsTrue (is_known f k) → rank f < n) → AreNew rank table n is → AreOver (Holds is_known) is g
     → RightItems rank table fact_of n is g × RightItems rank table picked n is g
-
--- the module has none of these names
-abbrev pub NotNamed : Text → List Module → Type 0
-NotNamed w [] = Unit {0}
-NotNamed w (m ∷ ms) = (is_word w m.name ≡ false) × NotNamed w ms
-
--- modules have different names
-abbrev pub NamesDiffer : List Module → Type 0
-NamesDiffer [] = Unit {0}
-NamesDiffer (m ∷ ms) = NotNamed m.name ms × NamesDiffer ms
-
--- no two names of a module stand at one place
-abbrev pub PlacesDiffer : List Module → Type 0
-PlacesDiffer [] = Unit {0}
-PlacesDiffer (m ∷ ms) = AllApart (module_places m) × PlacesDiffer ms
 
 -- Of modules with different names, whose names are resolved, and of which none has two names at one place: each theorem that is
 -- reported proved has a derivation of its fully expanded fact from the fully expanded assumptions before it alone.

@@ -1,4 +1,5 @@
-pub mod Places
+pub mod States
+pub mod ScopeLaws
 pub mod Scopes
 pub mod Ranks
 pub mod Laws

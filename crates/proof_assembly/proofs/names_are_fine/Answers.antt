@@ -1,5 +1,5 @@
-use Rattle.scope_laws.proofs.Fitting.{names_are_fine, bodies_are_fine, numbers_grow}
-use Rattle.scope_laws.proofs.names_are_fine.Goals as goal
+use Rattle.proof_assembly.proofs.Fitting.{names_are_fine, bodies_are_fine, numbers_grow}
+use Rattle.proof_assembly.proofs.names_are_fine.Goals as goal
 
 pub returns-clause-grows : goal.returns-clause-grows
 returns-clause-grows c = numbers_grow

@@ -29,9 +29,9 @@ use Rattle.module_scope.specs.Names.{Book, Walk, scope_of, entries_of, levels_of
 use Rattle.module_scope.specs.Names.Book.{book}
 use Rattle.prime_expand.specs.Symbols.{head_in, values, is_listed, library_signs}
 use Rattle.prime_expand.specs.Fine.{has_number, listed, count, with_decls, with_bounds, with_locals, NameFine, SignFine, Fine, AllFine, OverFine, ValuesFine, SetsFine, UpdatesFine, KeysFine, DefsFine}
-use Rattle.scope_laws.specs.Places.{Apart, decl_places, bound_places, places, all_places, over_places, value_places, set_places, update_places, key_places, definition_places}
-use Rattle.scope_laws.specs.States.{IsPrefix, Each, Free}
-use Rattle.scope_laws.proofs.Walks.{has_left, has_right, prefix_self, prefix_over, prefix_take, get_prefix, length_last, not_empty, each_found, each_map, each_append, symbol_prefix, noted_here, noted_apart, noted_prefix, free_left, free_right}
+use Rattle.name_places.specs.Places.{Apart, decl_places, bound_places, places, all_places, over_places, value_places, set_places, update_places, key_places, definition_places}
+use Rattle.proof_assembly.specs.States.{IsPrefix, Each, Free}
+use Rattle.proof_assembly.proofs.Walks.{has_left, has_right, prefix_self, prefix_over, prefix_take, get_prefix, length_last, not_empty, each_found, each_map, each_append, symbol_prefix, noted_here, noted_apart, noted_prefix, free_left, free_right}
 
 pub clash : {A : Type 0} (b : Bool) → b ≡ true → b ≡ false → A
 clash b h k = absurd (no b h k)

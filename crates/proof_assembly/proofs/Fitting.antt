@@ -15,11 +15,11 @@ use Rattle.prime_expand.specs.Core.{flags_in}
 use Rattle.prime_expand.specs.Fine.{Fine, with_decls}
 use Rattle.prime_expand.specs.Laws.{Holds, OfKind, OfSort, OfEntry}
 use Rattle.prime_expand.proofs.CoreFine.{core_over, bodies_over}
-use Rattle.scope_laws.specs.Places.{places, decl_places}
-use Rattle.scope_laws.specs.States.{Free, Known, Later, is_bound, gives, is_allowed}
-use Rattle.scope_laws.specs.Laws.{body_names, NumbersGrow, NamesAreFine, BodiesAreFine, CoresAreInScope, BodiesAreInScope}
-use Rattle.scope_laws.proofs.Walks.{get_prefix, each_map}
-use Rattle.scope_laws.proofs.Named.{Reaches, Result, IsHere, clash, names_walk, body_walk}
+use Rattle.name_places.specs.Places.{places, decl_places}
+use Rattle.proof_assembly.specs.States.{Free, Known, Later, is_bound, gives, is_allowed}
+use Rattle.proof_assembly.specs.ScopeLaws.{body_names, NumbersGrow, NamesAreFine, BodiesAreFine, CoresAreInScope, BodiesAreInScope}
+use Rattle.proof_assembly.proofs.Walks.{get_prefix, each_map}
+use Rattle.proof_assembly.proofs.Named.{Reaches, Result, IsHere, clash, names_walk, body_walk}
 
 module _ (E : List Entry) (allowed : ℕ → Bool) (meant : Place → Option ℕ) where
   given_by : (s : SymKind) (n j : ℕ) → allowed n ≡ true → gives (entry_of E n).sort (entry_of E n) s j ≡ true → OfKind (Holds (is_allowed E allowed)) s n j

@@ -7,8 +7,8 @@ use Rattle.plain_syntax.specs.Plain.{Term}
 use Rattle.module_scope.specs.Names.{Book, Walk, entries_of, symbols_of, means, inside, each, declare_name, names, ◌>>◌}
 use Rattle.prime_expand.specs.Core.{core_of, bodies, flags_in}
 use Rattle.prime_expand.specs.Laws.{Holds, IsOver}
-use Rattle.scope_laws.specs.Places.{places, decl_places}
-use Rattle.scope_laws.specs.States.{Free, Known, Later, IsFine, is_allowed}
+use Rattle.name_places.specs.Places.{places, decl_places}
+use Rattle.proof_assembly.specs.States.{Free, Known, Later, IsFine, is_allowed}
 
 -- the walk over a definition's parameters and text; the definition has the next number after it
 abbrev pub body_names : List Decl → Term → Walk

@@ -1,5 +1,5 @@
-use Rattle.scope_laws.proofs.Fitting.{cores_are_in_scope, bodies_are_in_scope}
-use Rattle.scope_laws.proofs.cores_are_in_scope.Goals as goal
+use Rattle.proof_assembly.proofs.Fitting.{cores_are_in_scope, bodies_are_in_scope}
+use Rattle.proof_assembly.proofs.cores_are_in_scope.Goals as goal
 
 pub returns-clause-expression : goal.returns-clause-expression
 returns-clause-expression c = cores_are_in_scope

@@ -10,8 +10,8 @@ use Rattle.plain_syntax.specs.Plain.{Text}
 use Rattle.symbol_table.specs.Symbols.{symbol_at, noted, unless_found}
 use Rattle.expression_level.specs.Levels.{is_word}
 use Rattle.module_scope.specs.Scope.{Scope, found}
-use Rattle.scope_laws.specs.Places.{same_place, Has, Apart, AllApart}
-use Rattle.scope_laws.specs.States.{IsPrefix, Each, Free}
+use Rattle.name_places.specs.Places.{same_place, Has, Apart, AllApart}
+use Rattle.proof_assembly.specs.States.{IsPrefix, Each, Free}
 
 -- ---- lists
 

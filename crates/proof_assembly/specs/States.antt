@@ -16,7 +16,7 @@ use Rattle.module_scope.specs.Names.{Book, scope_of, entries_of, symbols_of, fau
 use Rattle.prime_expand.specs.Core.{flags_in}
 use Rattle.prime_expand.specs.Fine.{with_decls}
 use Rattle.prime_expand.specs.Laws.{SymbolsFine, Holds}
-use Rattle.scope_laws.specs.Places.{Has, AllApart}
+use Rattle.name_places.specs.Places.{Has, AllApart}
 
 -- ---- states of the walk
 

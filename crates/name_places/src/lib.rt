@@ -1,0 +1,2 @@
+//! The places at which the names of a text stand: definitions alone.
+#![tactic(auto)]

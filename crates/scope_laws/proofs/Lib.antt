@@ -1,3 +1,0 @@
-pub mod Walks
-pub mod Named
-pub mod Fitting
