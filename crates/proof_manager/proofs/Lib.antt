@@ -1,9 +1,5 @@
 pub mod WordLaws
 pub mod ValueLaws
-pub mod LineLaws
 pub mod Walks
-pub mod Nodes
-pub mod Forms
-pub mod Readings
+pub mod Loaded
 pub mod Meant
-pub mod Marks

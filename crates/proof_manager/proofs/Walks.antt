@@ -1,10 +1,10 @@
--- What each of a list gives, one behind another; and faults that are passed on.
-use Rattle.std.specs.Prelude.{◌≡◌, ℕ, zero, suc, ◌+◌, ◌<◌, ◌≤◌, List, [], ◌∷◌, ◌++◌, map, drop, length, slice_index_or, Ok, Err, IsErrAnd}
+-- What each of a list gives; and faults that are passed on.
+use Rattle.std.specs.Prelude.{◌≡◌, ℕ, zero, suc, ◌+◌, ◌<◌, ◌≤◌, List, [], ◌∷◌, ◌++◌, drop, length, slice_index_or, Ok, Err, IsErrAnd}
 use Rattle.std.proofs.Common.{refl, ap, sym, ◌∙◌, arith, subst, append_assoc, append-nil}
 use Rattle.std.proofs.lemmas.List.{drop_all}
 use Rattle.tla_ast.specs.declared.fault.ScopeFault.{ScopeFault}
 use Rattle.tla_ast.specs.declared.fault.ScopeFault.TheVariants as fault
-use Rattle.proof_manager.specs.Outline.{Answer, and_then, each}
+use Rattle.proof_manager.specs.Judging.{Answer, and_then, each}
 use Rattle.proof_manager.specs.Causes.{Answers}
 
 -- these, and behind them what is still to come
@@ -15,9 +15,9 @@ pub behind-nothing : {B : Type 0} (r : Answer (List B)) → behind [] r ≡ r
 behind-nothing (Ok xs) = refl
 behind-nothing (Err e) = refl
 
-behind-both : {B : Type 0} (done ys : List B) (r : Answer (List B)) → behind done (and_then r (λ zs. Ok (ys ++ zs))) ≡ behind (done ++ ys) r
-behind-both done ys (Ok zs) = ap (λ l. Ok l) (sym (append_assoc done ys zs))
-behind-both done ys (Err e) = refl
+behind-one : {B : Type 0} (done : List B) (y : B) (r : Answer (List B)) → behind done (and_then r (λ ys. Ok (y ∷ ys))) ≡ behind (done ++ y ∷ []) r
+behind-one done y (Ok ys) = ap (λ l. Ok l) (sym (append_assoc done (y ∷ []) ys))
+behind-one done y (Err e) = refl
 
 from : {A : Type 0} (xs : List A) (i : ℕ) (x : A) → i < length xs → x ≡ slice_index_or xs i x → drop i xs ≡ x ∷ drop (suc i) xs
 from [] i x h s = absurd (omega arith)
@@ -25,29 +25,27 @@ from (y ∷ ys) zero x h s = ap (λ z. z ∷ ys) (sym s)
 from (y ∷ ys) (suc i) x h s = from ys i x (omega arith) s
 
 -- the first of the rest
-opened : {A B U : Type 0} (f : ℕ → A → Answer (List B)) (g : U → A) (us : List U) (i : ℕ) (u : U) (done : List B) → i < length us → u ≡ slice_index_or us i u
-    → behind done (each f i (map g (drop i us))) ≡ behind done (and_then (f i (g u)) (λ ys. and_then (each f (i + 1) (map g (drop (i + 1) us))) (λ zs. Ok (ys ++ zs))))
-opened f g us i u done l s =
+opened : {A B : Type 0} (f : A → Answer B) (xs : List A) (i : ℕ) (x : A) (done : List B) → i < length xs → x ≡ slice_index_or xs i x
+    → behind done (each f (drop i xs)) ≡ behind done (and_then (f x) (λ y. and_then (each f (drop (i + 1) xs)) (λ ys. Ok (y ∷ ys))))
+opened f xs i x done l s =
     let more : suc i ≡ i + 1 = omega arith in
-    ap (λ rest. behind done (each f i (map g rest))) (from us i u l s)
-    ∙ (λ j. behind done (and_then (f i (g u)) (λ ys. and_then (each f (more j) (map g (drop (more j) us))) (λ zs. Ok (ys ++ zs)))))
+    ap (λ rest. behind done (each f rest)) (from xs i x l s) ∙ (λ j. behind done (and_then (f x) (λ y. and_then (each f (drop (more j) xs)) (λ ys. Ok (y ∷ ys)))))
 
-pub each-next : {A B U : Type 0} (f : ℕ → A → Answer (List B)) (g : U → A) (us : List U) (i : ℕ) (u : U) (done ys : List B) (z : Answer (List B)) → i < length us → u ≡ slice_index_or us i u
-    → behind done (each f i (map g (drop i us))) ≡ z → f i (g u) ≡ Ok ys → behind (done ++ ys) (each f (i + 1) (map g (drop (i + 1) us))) ≡ z
-each-next f g us i u done ys z l s v e =
-    sym (behind-both done ys (each f (i + 1) (map g (drop (i + 1) us))))
-    ∙ sym (ap (λ r. behind done (and_then r (λ ws. and_then (each f (i + 1) (map g (drop (i + 1) us))) (λ zs. Ok (ws ++ zs))))) e)
-    ∙ sym (opened f g us i u done l s) ∙ v
+pub each-next : {A B : Type 0} (f : A → Answer B) (xs : List A) (i : ℕ) (x : A) (done : List B) (y : B) (z : Answer (List B)) → i < length xs → x ≡ slice_index_or xs i x
+    → behind done (each f (drop i xs)) ≡ z → f x ≡ Ok y → behind (done ++ y ∷ []) (each f (drop (i + 1) xs)) ≡ z
+each-next f xs i x done y z l s v e =
+    sym (behind-one done y (each f (drop (i + 1) xs)))
+    ∙ sym (ap (λ r. behind done (and_then r (λ w. and_then (each f (drop (i + 1) xs)) (λ ys. Ok (w ∷ ys))))) e)
+    ∙ sym (opened f xs i x done l s) ∙ v
 
-pub each-stops : {A B U : Type 0} (f : ℕ → A → Answer (List B)) (g : U → A) (us : List U) (i : ℕ) (u : U) (done : List B) (z : Answer (List B)) (e : ScopeFault) → i < length us → u ≡ slice_index_or us i u
-    → behind done (each f i (map g (drop i us))) ≡ z → f i (g u) ≡ Err e → z ≡ Err e
-each-stops f g us i u done z e l s v h =
-    sym v ∙ opened f g us i u done l s ∙ ap (λ r. behind done (and_then r (λ ws. and_then (each f (i + 1) (map g (drop (i + 1) us))) (λ zs. Ok (ws ++ zs))))) h
+pub each-stops : {A B : Type 0} (f : A → Answer B) (xs : List A) (i : ℕ) (x : A) (done : List B) (z : Answer (List B)) (e : ScopeFault) → i < length xs → x ≡ slice_index_or xs i x
+    → behind done (each f (drop i xs)) ≡ z → f x ≡ Err e → z ≡ Err e
+each-stops f xs i x done z e l s v h =
+    sym v ∙ opened f xs i x done l s ∙ ap (λ r. behind done (and_then r (λ y. and_then (each f (drop (i + 1) xs)) (λ ys. Ok (y ∷ ys))))) h
 
-pub each-ends : {A B U : Type 0} (f : ℕ → A → Answer (List B)) (g : U → A) (us : List U) (i : ℕ) (done : List B) (z : Answer (List B)) → length us ≤ i
-    → behind done (each f i (map g (drop i us))) ≡ z → z ≡ Ok done
-each-ends f g us i done z l v =
-    sym v ∙ ap (λ rest. behind done (each f i (map g rest))) (drop_all i us l) ∙ ap (λ d. Ok d) (append-nil done)
+pub each-ends : {A B : Type 0} (f : A → Answer B) (xs : List A) (i : ℕ) (done : List B) (z : Answer (List B)) → length xs ≤ i
+    → behind done (each f (drop i xs)) ≡ z → z ≡ Ok done
+each-ends f xs i done z l v = sym v ∙ ap (λ rest. behind done (each f rest)) (drop_all i xs l) ∙ ap (λ d. Ok d) (append-nil done)
 
 -- a fault that is passed on: what is defined is that too, where that of the part is
 pub passed-on : {T U A B : Type 0} (view : T → A) (view2 : U → B) (r : Answer U) (e : ScopeFault) (one : Answer A) (whole : Answer B) → IsErrAnd r (λ x. x ≡ e) → Answers view (Err e) one

@@ -8,7 +8,20 @@ use Rattle.tla_ast.specs.declared.fault.ScopeFault.TheVariants as fault
 use Rattle.plain_syntax.specs.Plain.{Module}
 use Rattle.module_shelf.specs.declared.fault.LoadFault.{LoadFault}
 use Rattle.module_shelf.specs.declared.fault.LoadFault.TheVariants as load
-use Rattle.proof_contexts.specs.Statuses.{is_proved}
+use Rattle.core_expr.specs.declared.canon.Canon.{Canon}
+use Rattle.tableau_definition.specs.Propositional.{Falsifies, by_number, all_connectives}
+use Rattle.propositional_search.specs.declared.search.Answer.TheVariants.{Saturated, Spent}
+use Rattle.sequent_answer.specs.Answer.{answer, is_proved}
+use Rattle.sequent_answer.specs.Laws.{IsValid}
+use Rattle.proof_contexts.specs.declared.leaf.Leaf.{Leaf}
+use Rattle.proof_contexts.specs.declared.leaf.LeafKind.{LeafKind}
+use Rattle.proof_contexts.specs.declared.leaf.LeafKind.TheVariants as kind
+use Rattle.proof_contexts.specs.Canonical.{obligation_canon}
+use Rattle.proof_contexts.specs.Statuses as statuses
+use Rattle.name_places.specs.Places.{NamesDiffer}
+use Rattle.theorem_leaves.specs.declared.chapter.TheoremLeaves.{TheoremLeaves}
+use Rattle.theorem_leaves.specs.declared.chapter.Chapter.{Chapter}
+use Rattle.theorem_leaves.specs.Chapters.{chapters_of}
 use Rattle.usable_facts.specs.Definitions.{definitions_of}
 use Rattle.usable_facts.specs.Theorems.{all_theorems}
 use Rattle.proof_assembly.specs.Laws.{EachDerives}
@@ -63,7 +76,7 @@ report_of ms = report_text Plain ms
 
 -- every theorem is reported proved
 abbrev pub all_hold : List ModuleIn → Bool
-all_hold ms = list_all is_proved (statuses_of ms)
+all_hold ms = list_all statuses.is_proved (statuses_of ms)
 
 -- the whole report was taken
 abbrev pub TakesReport : List ModuleIn → Option Bytes → Option Bytes → Type 0
@@ -99,13 +112,58 @@ OfReported P _ folder root = Unit {0}
 abbrev pub WhereReported : (Read → Type 0) → Status → Option Folder → Option Bytes → Type 0
 WhereReported P s told root = WhereTold root (λ name. WhereTold told (λ folder. OfReported P s folder name))
 
+-- ---- what reports mean
+
+-- a fact on the canonical form of a leaf, where the leaf is to be proved
+abbrev pub OfKind : (Canon → Type 0) → LeafKind → Type 0
+OfKind P (kind.Search o) = P (obligation_canon o)
+OfKind P _ = Unit {0}
+
+abbrev pub OfLeaves : (Canon → Type 0) → List Leaf → Type 0
+OfLeaves P [] = Unit {0}
+OfLeaves P (l ∷ ls) = OfKind P l.kind × OfLeaves P ls
+
+abbrev pub OfTheorems : (Canon → Type 0) → List TheoremLeaves → Type 0
+OfTheorems P [] = Unit {0}
+OfTheorems P (t ∷ ts) = OfLeaves P t.leaves × OfTheorems P ts
+
+-- the same of all leaves of modules
+abbrev pub OfChapters : (Canon → Type 0) → List Chapter → Type 0
+OfChapters P [] = Unit {0}
+OfChapters P (c ∷ cs) = OfTheorems P c.theorems × OfChapters P cs
+
+-- No valuation falsifies a leaf that is proved, and the values that are printed of one falsify its canonical form: they make its
+-- facts true and its goal false.
+pub record IsJustForm (c : Canon) : Type 0 where
+  pub valid : is_proved (answer c) ≡ true → IsValid c
+  pub falsified : (values : List Bool) (turns : ℕ) → answer c ≡ Saturated values turns → Falsifies (by_number values) c.facts c.goal
+
 -- Each theorem that is reported proved has a derivation of its fully expanded fact from the fully expanded assumptions before it
--- alone.
-abbrev pub IsJust : Read → Type 0
-IsJust r = EachDerives (definitions_of r.modules r.table) (all_theorems r.modules r.table) (statuses_of r.judged)
+-- alone. What is reported of its leaves is so of them.
+pub record IsJust (r : Read) : Type 0 where
+  pub derived : EachDerives (definitions_of r.modules r.table) (all_theorems r.modules r.table) (statuses_of r.judged)
+  pub leaves : OfChapters IsJustForm (chapters_of r.modules r.table)
 
 abbrev pub Justified : Status → Option Folder → Option Bytes → Type 0
 Justified = WhereReported IsJust
+
+-- Where a leaf's canonical form has at most 15 connectives, the turns suffice, and it is proved exactly where no valuation falsifies it.
+pub record IsDecidedForm (c : Canon) : Type 0 where
+  pub ended : all_connectives c.facts c.goal ≤ 15 → (turns : ℕ) → answer c ≡ Spent turns → ⊥
+  pub decided : all_connectives c.facts c.goal ≤ 15 → (is_proved (answer c) ≡ true) ↔ IsValid c
+
+abbrev pub IsDecided : Read → Type 0
+IsDecided r = OfChapters IsDecidedForm (chapters_of r.modules r.table)
+
+abbrev pub Decided : Status → Option Folder → Option Bytes → Type 0
+Decided = WhereReported IsDecided
+
+-- what is read of modules with different names means this
+abbrev pub ReadIsJust : Type 0
+ReadIsJust = (folder : Folder) (root : Bytes) (r : Read) → IsRead folder root r → NamesDiffer r.modules → IsJust r
+
+abbrev pub ReadIsDecided : Type 0
+ReadIsDecided = (folder : Folder) (root : Bytes) (r : Read) → IsRead folder root r → IsDecided r
 
 -- the answer's value, seen so, is the one that is defined, and so is a fault, unless memory was not found
 abbrev pub Answers : {T A : Type 0} → (T → A) → Answer T → Answer A → Type 0
@@ -115,13 +173,13 @@ Answers view (Err (fault.At owner place kind)) defined = defined ≡ Err (fault.
 
 -- what the reading of modules answers: their theorems come to these, or there is this fault, unless memory was not found
 abbrev pub ReadsAll : Answer (List ModuleIn) → List Module → Type 0
-ReadsAll (Ok js) ms = (r : Read) × (read_of ms ≡ Ok r) × (r.judged ≡ js)
+ReadsAll (Ok js) ms = (r : Read) × (read_of ms ≡ Ok r) × (r.judged ≡ js) × (r.modules ≡ ms)
 ReadsAll (Err fault.Memory) ms = Unit {0}
 ReadsAll (Err (fault.At owner place kind)) ms = read_of ms ≡ Err (fault.At owner place kind)
 
 -- how the reading of the modules ends, where the shelf tells what it holds
 abbrev pub Loads : Result (List ModuleIn) LoadFault → Option Folder → Bytes → Type 0
-Loads (Ok js) told root = WhereTold told (λ folder. (r : Read) × IsRead folder root r × (r.judged ≡ js))
+Loads (Ok js) told root = WhereTold told (λ folder. (r : Read) × IsRead folder root r × (r.judged ≡ js) × NamesDiffer r.modules)
 Loads (Err (load.NotFound name)) told root = WhereTold told (λ folder. reading folder root ≡ Err (load.NotFound name))
 Loads (Err (load.Refused owner place kind)) told root = WhereTold told (λ folder. reading folder root ≡ Err (load.Refused owner place kind))
 Loads (Err load.ReadFault) told root = Unit {0}

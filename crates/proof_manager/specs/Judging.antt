@@ -23,7 +23,8 @@ use Rattle.status_report.specs.declared.table.Shown.TheVariants as shown
 use Rattle.status_report.specs.declared.table.LeafIn.{LeafIn}
 use Rattle.status_report.specs.declared.table.TheoremIn.{TheoremIn}
 use Rattle.status_report.specs.declared.table.ModuleIn.{ModuleIn}
-use Rattle.sequent_answer.specs.Answer.{answer, is_propositional}
+use Rattle.sequent_answer.specs.Forms.{is_propositional_canon}
+use Rattle.sequent_answer.specs.Answer.{answer}
 use Rattle.proof_manager.specs.Values.{symbol_text, valuation_text}
 
 -- ---- answers
@@ -56,7 +57,7 @@ form owner p = fault.At owner p (Unsupported (codes "form"))
 -- an obligation that is to be proved: answered where its canonical form is propositional
 abbrev pub searched : List Entry → Text → Place → Obligation → Answer Shown
 searched es owner p o =
-    if is_propositional (obligation_canon o) then Ok (shown_answer (map (symbol_text es) (names_of o)) (answer (obligation_canon o)))
+    if is_propositional_canon (obligation_canon o) then Ok (shown_answer (map (symbol_text es) (names_of o)) (answer (obligation_canon o)))
     else Err (form owner p)
 
 abbrev pub shown_kind : List Entry → Text → Place → LeafKind → Answer Shown
@@ -90,4 +91,4 @@ as_verdict (Saturated values turns) = Verdict.Unproved
 as_verdict (Spent turns) = Verdict.Unproved
 
 abbrev pub verdict_on : Canon → Verdict
-verdict_on c = if is_propositional c then as_verdict (answer c) else Verdict.Unproved
+verdict_on c = if is_propositional_canon c then as_verdict (answer c) else Verdict.Unproved

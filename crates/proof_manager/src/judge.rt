@@ -1,7 +1,7 @@
 //! What leaves come to.
 
 ghost use Rattle.std.specs.Prelude.{◌≡◌, length, map, IfOk};
-ghost use Rattle.propositional_search.specs.declared.search.Answer.{Answer as answered};
+ghost use Rattle.sequent_answer.specs.Answer.{HasValues};
 ghost use Rattle.proof_manager.specs.Causes.{Answers};
 ghost use Rattle.proof_manager.specs.Judging as spec;
 ghost use Rattle.proof_manager.specs.Values.{symbol_text, valuation_text};
@@ -12,7 +12,7 @@ use core_expr::{Memory, Sym, Text};
 use obligation::Obligation;
 use propositional_search::Answer;
 use proof_contexts::{Leaf, LeafKind};
-use sequent_answer::{answer_to, is_propositional};
+use sequent_answer::{answer_to, canonical_forms, is_propositional};
 use sqlite_items::Items;
 use status_report::{LeafIn, ModuleIn, Shown, TheoremIn};
 use std::alloc::Global;
@@ -22,7 +22,7 @@ use tla_ast::{Kind, Place, ScopeFault};
 
 /// Where leaves are answered: the table of names, and the name of the module.
 #[derive(Clone, Copy)]
-pub struct Judge<'a> {
+pub struct Court<'a> {
     alloc: Global,
     scoped: &'a Scoped,
     module: &'a Text,
@@ -63,7 +63,7 @@ fn shown(
     }
 }
 
-impl Judge<'_> {
+impl Court<'_> {
     /// The refusal of what is not built yet.
     fn left_out(&self, place: Place) -> Result<ScopeFault, Memory>
         ensures { IfOk result (λ e. e ≡ spec.form self.now.«module».now place) }
@@ -84,7 +84,8 @@ impl Judge<'_> {
         if !is_propositional(&named.canon) {
             return Err(self.left_out(place)?);
         }
-        let answer = answer_to(self.alloc, &named.canon)?;
+        canonical_forms();
+        let answer = answer_to(self.alloc, &named.canon, named.names.len() as u64)?;
         Ok(shown(self.alloc, self.scoped, named.names.as_slice(), &answer)?)
     }
 
@@ -160,12 +161,12 @@ fn copy_name(alloc: Global, name: &Option<Text>) -> Result<Option<Text>, Memory>
 fn judge_module(alloc: Global, scoped: &Scoped, chapter: &Chapter) -> Result<ModuleIn, ScopeFault>
     ensures { Answers (λ m. m) result (spec.judged_module scoped.now.entries chapter.now) }
 {
-    let judge = Judge {
+    let court = Court {
         alloc,
         scoped,
         module: &chapter.name,
     };
-    let theorems = judge.theorems(chapter.theorems.as_slice())?;
+    let theorems = court.theorems(chapter.theorems.as_slice())?;
     Ok(ModuleIn {
         name: Text::of(alloc, chapter.name.bytes())?,
         theorems,

@@ -6,6 +6,7 @@
 #![tactic(auto)]
 
 mod judge;
+mod laws;
 mod load;
 mod status;
 mod steps;

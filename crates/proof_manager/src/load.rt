@@ -1,10 +1,10 @@
 //! The modules that are to be answered.
 
-ghost use Rattle.std.specs.Prelude.{◌≡◌, map, IfOk};
+ghost use Rattle.std.specs.Prelude.{◌≡◌, map, take, OnOk};
 ghost use Rattle.plain_syntax.specs.Syntax.{module_of};
 ghost use Rattle.module_shelf.specs.Causes.{LoadCause};
-ghost use Rattle.proof_manager.specs.Causes.{Answers, Loads};
-ghost use Rattle.proof_manager.specs.Reading.{Read, checked, load_fault, read_of};
+ghost use Rattle.proof_manager.specs.Causes.{Answers, Loads, ReadsAll};
+ghost use Rattle.proof_manager.specs.Reading.{checked, load_fault};
 
 use crate::judge::judge;
 use crate::steps::modules_fault;

@@ -2,7 +2,7 @@
 
 ghost use Rattle.std.specs.Prelude.{◌≡◌, ◌++◌, length, map, codes, OnOk};
 ghost use Rattle.symbol_table.specs.Scoped.{entry_of};
-ghost use Rattle.proof_manager.specs.Report.{prime_text, symbol_text, value_text, more_values, valuation_text};
+ghost use Rattle.proof_manager.specs.Values.{prime_text, symbol_text, value_text, more_values, valuation_text};
 
 use core_expr::{Sym, SymKind};
 use std::alloc::AllocError;

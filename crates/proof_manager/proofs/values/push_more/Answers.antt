@@ -1,4 +1,4 @@
-use Rattle.proof_manager.specs.Report.{symbol_text}
+use Rattle.proof_manager.specs.Values.{symbol_text}
 use Rattle.proof_manager.proofs.ValueLaws.{more_step}
 use Rattle.proof_manager.proofs.values.push_more.Goals as goal
 

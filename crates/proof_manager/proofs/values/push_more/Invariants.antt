@@ -1,5 +1,5 @@
 use Rattle.std.proofs.Common.{◌≡◌, ◌++◌, take, map}
-use Rattle.proof_manager.specs.Report.{symbol_text, more_values}
+use Rattle.proof_manager.specs.Values.{symbol_text, more_values}
 use Rattle.proof_manager.proofs.values.push_more.Given as goal
 
 abbrev pub invariant-loop-i : goal.invariant-loop-i

@@ -1,0 +1,23 @@
+//! What reports mean.
+
+ghost use Rattle.proof_manager.specs.Causes.{ReadIsJust, ReadIsDecided};
+
+use proof_assembly::statuses_are_justified;
+use reading_places::read_places_differ;
+use sequent_answer::{few_connectives_are_decided, proved_holds, saturated_falsifies};
+use status_report::statuses_agree;
+
+/// What is reported of modules with different names is so: each theorem that is reported proved has its derivation, no valuation
+/// falsifies a leaf that is proved, printed values falsify theirs, and leaves of few connectives are decided.
+#[tactic(auto, using(crate::proofs::Meant::read_is_just, crate::proofs::Meant::read_is_decided))]
+pub fn reports_are_just()
+    ensures just { ReadIsJust }
+    ensures decided { ReadIsDecided }
+{
+    read_places_differ();
+    statuses_are_justified();
+    statuses_agree();
+    proved_holds();
+    saturated_falsifies();
+    few_connectives_are_decided();
+}
