@@ -1,8 +1,5 @@
 pub mod Stacks
 pub mod Rows
-pub mod NodeLaws
-pub mod Formed
+pub mod Formulas
 pub mod Meant
-pub mod Renumbered
 pub mod Counting
-pub mod Worked

@@ -1,54 +1,15 @@
 -- Canonical forms that are propositional, and their symbols.
-use Rattle.std.specs.Prelude.{ℕ, suc, Bool, true, false, ◌&&◌, nat_eq, max, List, [], ◌∷◌}
-use Rattle.core_expr.specs.declared.head.Sym.{Sym}
-use Rattle.core_expr.specs.declared.head.SymKind.{SymKind}
-use Rattle.core_expr.specs.declared.head.SymKind.TheVariants as sym
+use Rattle.std.specs.Prelude.{ℕ, suc, Bool, ◌&&◌, max, List, [], ◌∷◌}
 use Rattle.core_expr.specs.declared.canon.Canon.{Canon}
-use Rattle.core_expr.specs.declared.row.RowKind.{RowKind}
-use Rattle.core_expr.specs.declared.row.RowKind.TheVariants.{Bound, Symbol, Plain, Binding}
-use Rattle.core_expr.specs.Tree.{Tree, Parts, size}
+use Rattle.core_expr.specs.Tree.{Tree, Parts}
 use Rattle.core_expr.specs.Tree.Tree.{bound, app, node, bind}
 use Rattle.core_expr.specs.Tree.Parts.{end, part}
 use Rattle.valuation.specs.Truth.{is_propositional, are_propositional}
+use Rattle.tableau_definition.specs.Propositional.{IsNumbered, AreNumbered}
 
-abbrev pub is_canon : SymKind → Bool
-is_canon sym.Canon = true
-is_canon sym.Constant = false
-is_canon sym.State = false
-is_canon sym.Primed = false
-is_canon sym.Defined = false
-is_canon sym.DefinedPrimed = false
-
--- a canonical symbol over so many arguments
-abbrev pub is_canonical_over : Sym → ℕ → Bool
-is_canonical_over f n = is_canon f.kind && nat_eq f.arity n
-
--- a node of this kind with so many parts, if it is a symbol's, is a canonical symbol's
-abbrev pub is_canonical_node : RowKind → ℕ → Bool
-is_canonical_node (Symbol f) parts = is_canonical_over f parts
-is_canonical_node Bound parts = true
-is_canonical_node (Plain h) parts = true
-is_canonical_node (Binding b) parts = true
-
--- each symbol is a canonical one over as many arguments as it has
-abbrev mutual
-  pub is_canonical : Tree → Bool
-  is_canonical (bound i) = true
-  is_canonical (app f ps) = all_canonical ps && is_canonical_over f (size ps)
-  is_canonical (node h ns ps) = all_canonical ps
-  is_canonical (bind b ps e) = all_canonical ps && is_canonical e
-
-  pub all_canonical : Parts → Bool
-  all_canonical end = true
-  all_canonical (part e ps) = is_canonical e && all_canonical ps
-
-abbrev pub are_canonical : List Tree → Bool
-are_canonical [] = true
-are_canonical (e ∷ es) = is_canonical e && are_canonical es
-
--- The facts and the goal are propositional formulas over canonical symbols.
+-- The facts and the goal are built of TRUE, FALSE, symbols without arguments and the five connectives.
 abbrev pub is_propositional_canon : Canon → Bool
-is_propositional_canon c = (are_propositional c.facts && is_propositional c.goal) && (are_canonical c.facts && is_canonical c.goal)
+is_propositional_canon c = are_propositional c.facts && is_propositional c.goal
 
 -- the least number from n on that is above those of the symbols
 abbrev mutual
@@ -69,3 +30,7 @@ each_above (e ∷ es) n = each_above es (above e n)
 -- How many symbols a canonical form has: they have the numbers from 0 on.
 abbrev pub symbol_count : Canon → ℕ
 symbol_count c = above c.goal (each_above c.facts 0)
+
+-- the formulas' symbols are canonical ones without arguments, with numbers below their count
+abbrev pub HasNumbers : Canon → Type 0
+HasNumbers c = AreNumbered (symbol_count c) c.facts × IsNumbered (symbol_count c) c.goal

@@ -1,13 +1,12 @@
 -- What answers mean, and which canonical forms obligations have. Each statement is the contract of a function of src/laws.rt.
-use Rattle.std.specs.Prelude.{◌≡◌, ◌↔◌, ◌≤◌, ◌&&◌, ℕ, Bool, true, List, [], ◌∷◌, length}
+use Rattle.std.specs.Prelude.{◌≡◌, ◌↔◌, ◌≤◌, ℕ, Bool, true, List, [], ◌∷◌, length}
 use Rattle.core_expr.specs.declared.canon.Canon.{Canon}
 use Rattle.core_expr.specs.Tree.{Tree}
 use Rattle.seq_calculus.specs.Calculus.{Der}
-use Rattle.valuation.specs.Truth.{is_propositional, are_propositional}
 use Rattle.tableau_definition.specs.Propositional.{Valuation, Falsifies, by_number, all_connectives}
 use Rattle.propositional_search.specs.declared.search.Answer.TheVariants.{Saturated, Spent}
 use Rattle.proof_contexts.specs.Canonical.{distinct, symbols_of, canon_of}
-use Rattle.sequent_answer.specs.Forms.{is_propositional_canon, symbol_count}
+use Rattle.sequent_answer.specs.Forms.{is_propositional_canon, symbol_count, HasNumbers}
 use Rattle.sequent_answer.specs.Answer.{answer, is_proved}
 
 -- no valuation makes the facts true and the goal false
@@ -28,7 +27,7 @@ ProvedIsValid = OfForms (λ c. is_proved (answer c) ≡ true → IsValid c)
 
 -- the values of a saturated answer, by the numbers of the symbols, falsify the form
 abbrev pub SaturatedFalsifies : Type 0
-SaturatedFalsifies = OfForms (λ c. (values : List Bool) (turns : ℕ) → answer c ≡ Saturated values turns → Falsifies (by_number values) c.facts c.goal)
+SaturatedFalsifies = OfForms (λ c. HasNumbers c → (values : List Bool) (turns : ℕ) → answer c ≡ Saturated values turns → Falsifies (by_number values) c.facts c.goal)
 
 -- the turns suffice for a form of at most 15 connectives
 abbrev pub FewConnectivesEnd : Type 0
@@ -38,9 +37,9 @@ FewConnectivesEnd = OfForms (λ c. (turns : ℕ) → all_connectives c.facts c.g
 abbrev pub FewConnectivesDecide : Type 0
 FewConnectivesDecide = OfForms (λ c. all_connectives c.facts c.goal ≤ 15 → (is_proved (answer c) ≡ true) ↔ IsValid c)
 
--- the canonical form of any facts and goal is answered where they are propositional
-abbrev pub FormsAreCanonical : Type 0
-FormsAreCanonical = (fs : List Tree) (g : Tree) → let c = canon_of fs g in is_propositional_canon c ≡ (are_propositional c.facts && is_propositional c.goal)
+-- the symbols of the canonical form of any facts and goal are canonical ones
+abbrev pub FormsAreNumbered : Type 0
+FormsAreNumbered = (fs : List Tree) (g : Tree) → HasNumbers (canon_of fs g)
 
 -- it has as many symbols as there are different ones in the different facts and the goal
 abbrev pub SymbolsAreCounted : Type 0

@@ -1,7 +1,7 @@
 //! The answer to a canonical form.
 
 ghost use Rattle.std.specs.Prelude.{◌≡◌, true, IfOk};
-ghost use Rattle.sequent_answer.specs.Forms.{is_propositional_canon, symbol_count};
+ghost use Rattle.sequent_answer.specs.Forms.{is_propositional_canon, symbol_count, HasNumbers};
 ghost use Rattle.sequent_answer.specs.Nodes.{answer_on, stack_of};
 ghost use Rattle.sequent_answer.specs.Answer.{HasValues, answer, is_proved};
 
@@ -40,11 +40,12 @@ fn answer_on(alloc: Global, canon: &Canon, symbols: u64) -> Result<Answer, Memor
     )
 }
 
-/// The answer of the written search to a propositional canonical form with so many symbols. Want of memory is the only other
-/// answer.
+/// The answer of the written search to a canonical form that is propositional and has so many symbols. Want of memory is the only
+/// other answer.
 #[tactic(auto, using(crate::proofs::Meant::answer_is, crate::proofs::Meant::values_are))]
 pub fn answer_to(alloc: Global, canon: &Canon, symbols: u64) -> Result<Answer, Memory>
     requires propositional { is_propositional_canon canon.now ≡ true }
+    requires numbered { HasNumbers canon.now }
     requires symbols { symbols ≡ symbol_count canon.now }
     ensures answer { IfOk result (λ a. a ≡ answer canon.now) }
     ensures values { IfOk result (λ a. HasValues symbols a) }

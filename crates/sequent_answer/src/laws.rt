@@ -1,6 +1,6 @@
 //! What answers mean. The functions do nothing: their contracts are the laws.
 
-ghost use Rattle.sequent_answer.specs.Laws.{ProvedDerives, ProvedIsValid, SaturatedFalsifies, FewConnectivesEnd, FewConnectivesDecide, FormsAreCanonical, SymbolsAreCounted};
+ghost use Rattle.sequent_answer.specs.Laws.{ProvedDerives, ProvedIsValid, SaturatedFalsifies, FewConnectivesEnd, FewConnectivesDecide, FormsAreNumbered, SymbolsAreCounted};
 
 use tableau_definition::{
     closed_derives, closed_is_valid, decides_propositional, falsifies_by_number, turns_suffice,
@@ -36,9 +36,9 @@ pub fn few_connectives_are_decided()
     decides_propositional();
 }
 
-/// The canonical form of facts and a goal has canonical symbols alone, as many as its facts and its goal have different ones.
-#[tactic(auto, using(crate::proofs::Renumbered::forms_are_canonical, crate::proofs::Counting::symbols_are_counted))]
+/// The symbols of the canonical form of facts and a goal are canonical ones, as many as its facts and its goal have different ones.
+#[tactic(auto, using(crate::proofs::Counting::forms_are_numbered, crate::proofs::Counting::symbols_are_counted))]
 pub fn canonical_forms()
-    ensures canonical { FormsAreCanonical }
+    ensures numbered { FormsAreNumbered }
     ensures counted { SymbolsAreCounted }
 {}

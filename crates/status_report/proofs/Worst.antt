@@ -12,14 +12,6 @@ use Rattle.status_report.specs.Telling.{worse}
 pub worse-assoc : (a b c : Verdict) → worse (worse a b) c ≡ worse a (worse b c)
 worse-assoc a b c = grind (arith, nat_tests)
 
-pub worse-proved : (a : Verdict) → worse Proved a ≡ a
-worse-proved Temporal = refl
-worse-proved Memory = refl
-worse-proved Unproved = refl
-worse-proved Missing = refl
-worse-proved Omitted = refl
-worse-proved Proved = refl
-
 -- the first of them that is there
 first : Bool → Bool → Bool → Bool → Bool → Verdict
 first t m u i o = if t then Temporal else if m then Memory else if u then Unproved else if i then Missing else if o then Omitted else Proved

@@ -52,7 +52,8 @@ impl<'a> Seen<'a> {
 
     /// Notes a further theorem, which is proved or not.
     pub fn see(&mut self, theorem: &'a TheoremIn, proved: bool) -> Result<(), Memory>
-        ensures { OnOk result (seen_of self.new ≡ with_theorem proved theorem.now (seen_of self.old)) }
+        ensures { OnOk result (seen_of self.new
+            ≡ with_theorem proved theorem.now (seen_of self.old)) }
     {
         if proved {
             self.done.insert_full(theorem.key)?;

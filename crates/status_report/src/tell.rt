@@ -4,9 +4,9 @@ ghost use Rattle.std.specs.Prelude.{◌≡◌, ◌++◌, fold, length, count_by,
 ghost use Rattle.std.specs.List.{list_any};
 ghost use Rattle.proof_contexts.specs.Statuses.{is_proved};
 ghost use Rattle.status_report.specs.Texts.{line};
-ghost use Rattle.status_report.specs.Statuses.{nothing, status_in};
+ghost use Rattle.status_report.specs.Statuses.{status_in};
 ghost use Rattle.status_report.specs.Report.{status_text, theorem_line, theorem_lines, all_theorems, statuses_of, in_style, report_text, is_memory, wants_memory, has_memory_leaf};
-ghost use Rattle.status_report.specs.Telling.{seen_of, status_of, told_of, tell, with_text, tell_module};
+ghost use Rattle.status_report.specs.Telling.{seen_of, status_of, told_of, tell, tell_module};
 
 use crate::judge::Status;
 use crate::seen::Seen;
