@@ -11,6 +11,7 @@ use Rattle.symbol_table.specs.declared.entry.Entry.{Entry}
 use Rattle.symbol_table.specs.Scoped.{Table}
 use Rattle.obligation.specs.declared.obligation.Definition.{Definition}
 use Rattle.obligation.specs.declared.obligation.Obligation.{Obligation}
+use Rattle.obligation.specs.Unfolding.{unfolded}
 use Rattle.module_scope.specs.Resolution.{resolution}
 use Rattle.module_shelf.specs.Loading.{Outcome, followed, loading}
 use Rattle.proof_contexts.specs.declared.leaf.Leaf.{Leaf}
@@ -19,6 +20,7 @@ use Rattle.proof_contexts.specs.declared.leaf.LeafKind.TheVariants as kind
 use Rattle.proof_contexts.specs.Canonical.{obligation_canon}
 use Rattle.proof_contexts.specs.Statuses.{Verdict, cites, verdict, verdicts}
 use Rattle.proof_contexts.specs.Theorems.{Theorem, theorem_leaves}
+use Rattle.proof_contexts.specs.Leaves.{IsDerived}
 use Rattle.proof_contexts.specs.Laws.{IsSound}
 use Rattle.usable_facts.specs.Definitions.{definitions_of}
 use Rattle.usable_facts.specs.Theorems.{chosen_keys, is_theorem_of, all_theorems}
@@ -29,7 +31,7 @@ use Rattle.propositional_search.specs.declared.search.Answer.{Answer as Searched
 use Rattle.propositional_search.specs.declared.search.Answer.TheVariants.{Proved, Saturated, Spent}
 use Rattle.sequent_answer.specs.Forms.{is_propositional_canon}
 use Rattle.sequent_answer.specs.Answer.{answer, is_proved}
-use Rattle.sequent_answer.specs.Laws.{ProvedDerives, ProvedIsValid, SaturatedFalsifies, FewConnectivesEnd, FewConnectivesDecide}
+use Rattle.sequent_answer.specs.Laws.{ProvedDerives, ProvedIsValid, SaturatedFalsifies, FewConnectivesEnd, FewConnectivesDecide, FormsAreNumbered}
 use Rattle.status_report.specs.declared.table.Shown.{Shown}
 use Rattle.status_report.specs.declared.table.LeafIn.{LeafIn}
 use Rattle.status_report.specs.declared.table.TheoremIn.{TheoremIn}
@@ -149,22 +151,22 @@ module _ (es : List Entry) where
 
 -- ---- what is so of propositional forms is so of all that are answered
 
-of-leaves : (P : Canon → Type 0) → ((c : Canon) → IsAnswered c → P c) → (ls : List Leaf) → OfLeaves IsAnswered ls → OfLeaves P ls
+of-leaves : (P : Canon → Type 0) → ((o : Obligation) → IsAnswered (obligation_canon o) → P (obligation_canon o)) → (ls : List Leaf) → OfLeaves IsAnswered ls → OfLeaves P ls
 of-leaves P f [] h = tt
 of-leaves P f (l ∷ ls) h = (of-kind l.kind h.0, of-leaves P f ls h.1)
   where
     of-kind : (k : LeafKind) → OfKind IsAnswered k → OfKind P k
-    of-kind (kind.Search o) h = f (obligation_canon o) h
+    of-kind (kind.Search o) h = f o h
     of-kind kind.Missing h = tt
     of-kind kind.Omitted h = tt
     of-kind kind.Temporal h = tt
     of-kind kind.Shape h = tt
 
-of-theorems : (P : Canon → Type 0) → ((c : Canon) → IsAnswered c → P c) → (ts : List TheoremLeaves) → OfTheorems IsAnswered ts → OfTheorems P ts
+of-theorems : (P : Canon → Type 0) → ((o : Obligation) → IsAnswered (obligation_canon o) → P (obligation_canon o)) → (ts : List TheoremLeaves) → OfTheorems IsAnswered ts → OfTheorems P ts
 of-theorems P f [] h = tt
 of-theorems P f (t ∷ ts) h = (of-leaves P f t.leaves h.0, of-theorems P f ts h.1)
 
-of-chapters : (P : Canon → Type 0) → ((c : Canon) → IsAnswered c → P c) → (cs : List Chapter) → OfChapters IsAnswered cs → OfChapters P cs
+of-chapters : (P : Canon → Type 0) → ((o : Obligation) → IsAnswered (obligation_canon o) → P (obligation_canon o)) → (cs : List Chapter) → OfChapters IsAnswered cs → OfChapters P cs
 of-chapters P f [] h = tt
 of-chapters P f (c ∷ cs) h = (of-theorems P f c.theorems h.0, of-chapters P f cs h.1)
 
@@ -204,12 +206,12 @@ sound derives c e = by (is_propositional_canon c) refl
     proved (Saturated values turns) h = cc
     proved (Spent turns) h = cc
 
-    by : (b : Bool) → is_propositional_canon c ≡ b → _
-    by true h = derives c h (proved (answer c) (sym (ap (λ b. if b then as_verdict (answer c) else Verdict.Unproved) h) ∙ e))
-    by false h = absurd (never (sym (ap (λ b. if b then as_verdict (answer c) else Verdict.Unproved) h) ∙ e))
-
     never : Verdict.Unproved ≡ Verdict.Proved → ⊥
     never h = cc
+
+    by : (b : Bool) → is_propositional_canon c ≡ b → IsDerived c
+    by true h = derives c h (proved (answer c) (sym (ap (λ b. if b then as_verdict (answer c) else Verdict.Unproved) h) ∙ e))
+    by false h = absurd (never (sym (ap (λ b. if b then as_verdict (answer c) else Verdict.Unproved) h) ∙ e))
 
 right-derives : ReadPlacesDiffer → StatusesAreJustified → StatusesAgree → ChaptersReport → ProvedDerives → (r : Read) → IsRight r → NamesDiffer r.modules
     → EachDerives (definitions_of r.modules r.table) (all_theorems r.modules r.table) (statuses_of r.judged)
@@ -222,17 +224,17 @@ right-derives places justified agree report derives r h names =
         (chapters-stand r.table.entries table is_theorem (chapters_of r.modules r.table) r.judged (all_theorems r.modules r.table) h.judged (report r.modules r.table))))
     (justified r.modules r.table verdict_on h.resolved names (subst PlacesDiffer l.4 (loads-apart places None l.0 l.1 l.2 l.3)) (sound derives))
 
-pub read_is_just : ReadPlacesDiffer → StatusesAreJustified → StatusesAgree → ChaptersReport → ProvedDerives → ProvedIsValid → SaturatedFalsifies → ReadIsJust
-read_is_just places justified agree report derives valid falsifies folder root r e names =
+pub read_is_just : ReadPlacesDiffer → StatusesAreJustified → StatusesAgree → ChaptersReport → ProvedDerives → ProvedIsValid → SaturatedFalsifies → FormsAreNumbered → ReadIsJust
+read_is_just places justified agree report derives valid falsifies numbered folder root r e names =
     let h = read-right folder root r e in
     record {
       derived = right-derives places justified agree report derives r h names;
-      leaves = of-chapters IsJustForm (λ c p. record { valid = valid c p; falsified = falsifies c p }) (chapters_of r.modules r.table)
+      leaves = of-chapters IsJustForm (λ o p. record { valid = valid (obligation_canon o) p; falsified = falsifies (obligation_canon o) p (numbered (map (unfolded o.defs) o.facts) (unfolded o.defs o.goal)) }) (chapters_of r.modules r.table)
           (chapters-answered r.table.entries [] (λ k. false) (chapters_of r.modules r.table) r.judged h.judged);
     }
 
 pub read_is_decided : FewConnectivesEnd → FewConnectivesDecide → ReadIsDecided
 read_is_decided ends decides folder root r e =
     let h = read-right folder root r e in
-    of-chapters IsDecidedForm (λ c p. record { ended = λ few turns. ends c p turns few; decided = decides c p }) (chapters_of r.modules r.table)
+    of-chapters IsDecidedForm (λ o p. record { ended = λ few turns. ends (obligation_canon o) p turns few; decided = decides (obligation_canon o) p }) (chapters_of r.modules r.table)
     (chapters-answered r.table.entries [] (λ k. false) (chapters_of r.modules r.table) r.judged h.judged)

@@ -1,7 +1,8 @@
 -- The values of symbols in a row.
 use Rattle.std.specs.Prelude.{◌≡◌, ℕ, zero, suc, ◌+◌, ◌<◌, Bool, List, [], ◌∷◌, ◌++◌, map, length, take, codes, Result, Ok, Err, OnOk}
 use Rattle.std.proofs.Common.{ap, sym, ◌∙◌, arith, get_or, append_assoc, append-nil}
-use Rattle.proof_manager.specs.Values.{Bytes, value_text, more_values}
+use Rattle.tla_io.specs.Told.{Bytes}
+use Rattle.proof_manager.specs.Values.{value_text, more_values}
 
 pub more_next : {A : Type 0} (n : A → Bytes) (ps : List A) (vs : List Bool) (i : ℕ) (d : A) (c : Bool) → i < length ps → length vs ≡ length ps
     → more_values (map n (take (suc i) ps)) (take (suc i) vs) ≡ more_values (map n (take i ps)) (take i vs) ++ (codes ", " ++ value_text (n (get_or ps i d)) (get_or vs i c))

@@ -1,5 +1,5 @@
 -- What is read of modules: what their names mean, and their theorems with what their leaves come to; or the first fault.
-use Rattle.std.specs.Prelude.{◌≡◌, ℕ, zero, suc, List, [], ◌∷◌, ◌++◌, map, take, Option, Some, None, Result, Ok, Err, codes}
+use Rattle.std.specs.Prelude.{◌≡◌, ℕ, suc, List, [], ◌∷◌, ◌++◌, map, take, Option, Some, None, Result, Ok, Err, codes}
 use Rattle.tla_io.specs.Told.{Folder}
 use Rattle.tla_ast.specs.declared.place.Place.{Place}
 use Rattle.tla_ast.specs.declared.fault.Fault.{Fault}
@@ -42,10 +42,13 @@ abbrev pub units_fault : List plain.Unit → Option Fault
 units_fault [] = None
 units_fault (x ∷ xs) = given (unit_fault x.kind) (units_fault xs) (λ e. Some e)
 
--- the first module with a fault of step names: how many modules stand before it, and the fault
+-- the first module with a fault of step names, counted on: how many modules stand before it, and the fault
+abbrev pub fault_from : ℕ → List Module → Option (ℕ × ScopeFault)
+fault_from n [] = None
+fault_from n (x ∷ xs) = given (units_fault x.units) (fault_from (suc n) xs) (λ e. Some (n, in_module x.name e))
+
 abbrev pub modules_fault : List Module → Option (ℕ × ScopeFault)
-modules_fault [] = None
-modules_fault (x ∷ xs) = given (units_fault x.units) (given (modules_fault xs) None (λ f. Some (suc f.0, f.1))) (λ e. Some (zero, in_module x.name e))
+modules_fault ms = fault_from 0 ms
 
 -- ---- names
 

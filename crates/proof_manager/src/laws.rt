@@ -4,7 +4,9 @@ ghost use Rattle.proof_manager.specs.Causes.{ReadIsJust, ReadIsDecided};
 
 use proof_assembly::statuses_are_justified;
 use reading_places::read_places_differ;
-use sequent_answer::{few_connectives_are_decided, proved_holds, saturated_falsifies};
+use sequent_answer::{
+    canonical_forms, few_connectives_are_decided, proved_holds, saturated_falsifies,
+};
 use status_report::statuses_agree;
 
 /// What is reported of modules with different names is so: each theorem that is reported proved has its derivation, no valuation
@@ -19,5 +21,6 @@ pub fn reports_are_just()
     statuses_agree();
     proved_holds();
     saturated_falsifies();
+    canonical_forms();
     few_connectives_are_decided();
 }
