@@ -2,7 +2,6 @@
 ghost use Rattle.std.specs.Prelude.{◌≡◌, ◌<◌, ◌≤◌, ◌∷◌, length, IfOk, OnOk};
 ghost use Rattle.std.specs.List.{All};
 ghost use Rattle.propositional_search.specs.Nodes.{tree_at, Keeps};
-ghost use Rattle.core_expr.specs.declared.head.Head.TheVariants.{Not};
 ghost use Rattle.core_expr.specs.Flat.{top, rest};
 ghost use Rattle.sequent_answer.specs.Nodes.{trees_at, joined_by, joined, headed, stacked, pushed, all_pushed};
 
@@ -99,20 +98,6 @@ fn join(
     connect(formulas, connective, two)
 }
 
-/// The place of the negation of the uppermost formula, which it takes off the stack.
-#[tactic(auto, using(crate::proofs::Stacks::trees_kept))]
-fn negate(formulas: &mut Formulas, stack: &mut Vec<usize>) -> Result<usize, Memory>
-    requires { All (λ i. i < length formulas.old) stack.old.items }
-    ensures within { IfOk result (λ i. i < length formulas.new) }
-    ensures stack { OnOk result (All (λ i. i < length formulas.new) stack.new.items) }
-    ensures formulas { IfOk result (λ i.
-        tree_at formulas.new i ∷ trees_at formulas.new stack.new.items
-        ≡ headed Not (trees_at formulas.old stack.old.items)) }
-{
-    let part = take_top(formulas, stack)?;
-    formulas.not(part)
-}
-
 /// The place of the formula that a node with this head makes of its operands, which it takes off the stack. A head that no
 /// propositional formula has makes TRUE.
 #[tactic(auto, using(crate::proofs::Stacks::trees_kept))]
@@ -130,7 +115,10 @@ fn place_of_head(
 {
     match head {
         Head::False => formulas.falsity(),
-        Head::Not => negate(formulas, stack),
+        Head::Not => {
+            let part = take_top(formulas, stack)?;
+            formulas.not(part)
+        }
         Head::And => join(formulas, stack, Connective::And),
         Head::Or => join(formulas, stack, Connective::Or),
         Head::Imp => join(formulas, stack, Connective::Implies),
