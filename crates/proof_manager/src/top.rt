@@ -4,6 +4,7 @@ ghost use Rattle.std.specs.Prelude.{◌≡◌};
 ghost use Rattle.proof_manager.specs.Words.{named_by};
 ghost use Rattle.proof_manager.specs.Causes.{WordsCause, ReportCause, Justified, Decided, ShelfCause, SinkCause, IsUnwritten, IsUntouched, Writes};
 
+use crate::laws::reports_are_just;
 use crate::load::read;
 use crate::status::Status;
 use crate::words::root;
@@ -14,6 +15,7 @@ use std::alloc::Global;
 use tla_io::{CacheFile, Shelf, Sink, write_whole};
 
 /// Makes the report and writes it.
+#[tactic(auto, using(crate::proofs::Lines::all_proved))]
 fn write<K: Sink>(alloc: Global, modules: &[ModuleIn], out: &mut K) -> Status
     ensures report { Writes result modules.now (K.taken out.old) (K.taken out.new) }
     ensures sink { SinkCause result (K.count out.old) (K.count out.new) }
@@ -67,6 +69,7 @@ pub fn run<S: Shelf, C: CacheFile, K: Sink>(
     let Ok(root) = Text::of(alloc, name.as_bytes()) else {
         return Status::Memory;
     };
+    reports_are_just();
     match read(alloc, shelf, &root) {
         Ok(modules) => write(alloc, modules.as_slice(), out),
         Err(LoadFault::NotFound(name)) => Status::NotFound { name },
