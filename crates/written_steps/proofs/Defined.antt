@@ -1,22 +1,19 @@
 -- Definitions of a part of a module, one after another.
-use Rattle.std.proofs.Common.{◌≡◌, ℕ, Bool, true, false, zero, suc, ◌+◌, List, [], ◌∷◌, ◌++◌, map, length, Option, Some, None, refl, sym, ap, subst, ◌∙◌, append-nil, append_assoc, arith}
-use Rattle.tla_ast.specs.declared.place.Place.{Place}
+use Rattle.std.proofs.Common.{◌≡◌, ℕ, Bool, true, false, zero, suc, ◌+◌, List, [], ◌∷◌, ◌++◌, map, length, Option, Some, refl, sym, ap, ◌∙◌, append-nil, append_assoc, arith}
 use Rattle.tla_ast.specs.declared.tree.Def.{Def, out-Def}
-use Rattle.tla_ast.specs.declared.unit.Fact.{Fact}
 use Rattle.tla_ast.specs.declared.unit.Step.{Step, out-Step, fold-Step}
 use Rattle.tla_ast.specs.declared.unit.Proof.{Proof, out-Proof, roll-Proof, roll-out-Proof}
 use Rattle.tla_ast.specs.declared.unit.Proof.TheFolds.{fold-roll-Proof, fold_out-Step}
 use Rattle.tla_ast.specs.declared.unit.Proof.TheOpen.{Proof-F}
 use Rattle.tla_ast.specs.declared.unit.Proof.TheVariants as proof
 use Rattle.obligation.specs.declared.obligation.Definition.{Definition}
-use Rattle.symbol_table.specs.declared.entry.Entry.{Entry}
 use Rattle.symbol_table.specs.Scoped.{entry_of}
 use Rattle.plain_syntax.specs.Plain as plain
-use Rattle.plain_syntax.specs.Plain.{Defs, Steps, Term}
+use Rattle.plain_syntax.specs.Plain.{Defs, Steps}
 use Rattle.plain_syntax.specs.Plain.Defs.{end_defs}
 use Rattle.plain_syntax.specs.Plain.Proof.{steps}
 use Rattle.plain_syntax.specs.Plain.Steps.{end_steps, step}
-use Rattle.plain_syntax.specs.Syntax.{term_of, defs_of, each_def, move_of, proof_of, proof_step, step_step, joined}
+use Rattle.plain_syntax.specs.Syntax.{term_of, defs_of, move_of, proof_of, proof_step, step_step, joined}
 use Rattle.plain_syntax.proofs.Forms.{is-def}
 use Rattle.prime_expand.specs.Core.{bodies, flags_in, half, kind_of}
 use Rattle.prime_expand.specs.Symbols.{second_kind}

@@ -1,5 +1,5 @@
 -- Facts after BY, USE and HIDE, one after another; names of facts, form by form.
-use Rattle.std.proofs.Common.{◌≡◌, ℕ, List, [], ◌∷◌, ◌++◌, map, Option, Some, None, refl, sym, ap, ◌∙◌, append-nil, append_assoc}
+use Rattle.std.proofs.Common.{◌≡◌, ℕ, List, [], ◌∷◌, ◌++◌, map, Option, None, refl, sym, ap, ◌∙◌, append-nil}
 use Rattle.tla_ast.specs.declared.place.Place.{Place}
 use Rattle.tla_ast.specs.declared.tree.Node.{Node, out-Node}
 use Rattle.tla_ast.specs.declared.tree.Path.{Path}
@@ -16,8 +16,8 @@ use Rattle.plain_syntax.specs.Plain.Term.{term}
 use Rattle.plain_syntax.specs.Plain.Shape.{name}
 use Rattle.plain_syntax.specs.Plain.Fact.{step_name, whole}
 use Rattle.plain_syntax.specs.Syntax.{Held, term_of, terms_of, except_of, shape_of, key_of, def_of, group_of, node_of, path_of}
-use Rattle.plain_syntax.proofs.Forms.{held, by-form, is-name, parts_in}
-use Rattle.usable_facts.specs.Proofs.{facts, by_step, by_term, hidden, step_keys, entry_keys, fact_name, if_fact}
+use Rattle.plain_syntax.proofs.Forms.{held, by-form, is-name}
+use Rattle.usable_facts.specs.Proofs.{facts, by_step, hidden, step_keys, entry_keys, fact_name, if_fact}
 
 module _ (means : Place → Option ℕ) (cite : Place → Option ℕ) (entries : List Entry) where
   pub facts_first : (f : Fact) (fs : List Fact) → facts means cite entries (f ∷ fs) ≡ facts means cite entries (f ∷ []) ++ facts means cite entries fs

@@ -1,5 +1,5 @@
 -- Numbers by which steps are cited.
-use Rattle.std.proofs.Common.{◌≡◌, ℕ, List, [], ◌∷◌, Option, Some, None, refl, ap}
+use Rattle.std.proofs.Common.{◌≡◌, ℕ, List, [], ◌∷◌, Some, None, refl}
 use Rattle.usable_facts.specs.Keys.{step_key, label_key}
 
 pub unlabelled : (n : ℕ) (w : List ℕ) → w ≡ [] → label_key n w ≡ None

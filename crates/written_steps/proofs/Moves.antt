@@ -16,15 +16,14 @@ use Rattle.tla_ast.specs.declared.tree.Form.TheOpen.{Form-F}
 use Rattle.tla_ast.specs.declared.tree.Form.TheVariants as form
 use Rattle.core_expr.specs.declared.head.SymKind.TheVariants as kinds
 use Rattle.core_expr.specs.Tree.{Tree}
-use Rattle.plain_syntax.specs.Plain.{Text, Term, Terms, Keys, Groups, Defs}
+use Rattle.plain_syntax.specs.Plain.{Text, Term, Keys, Groups, Defs}
 use Rattle.plain_syntax.specs.Plain.Term.{term}
 use Rattle.plain_syntax.specs.Plain.Terms.{none, part}
 use Rattle.plain_syntax.specs.Plain.Shape.{infixed}
 use Rattle.plain_syntax.specs.Syntax.{Held, term_of, terms_of, set_of, with_domain, each_group, each_def, except_of, shape_of, key_of, def_of, group_of, node_of, path_of}
-use Rattle.plain_syntax.proofs.Forms.{held, by-form, is-infixed, is-group, is-def, parts_in}
+use Rattle.plain_syntax.proofs.Forms.{held, by-form, is-infixed, is-group, is-def}
 use Rattle.prime_expand.specs.Symbols.{is_word}
 use Rattle.proof_contexts.specs.Steps as c
-use Rattle.proof_contexts.specs.Steps.{Step, Item}
 use Rattle.proof_contexts.specs.Steps.Step.{Take, TakeIn}
 use Rattle.proof_contexts.specs.Steps.Item.{New, NewIn}
 use Rattle.known_facts.specs.Shown.{sym_of, item_of, items_of}

@@ -1,5 +1,5 @@
 -- Items of statements, one after another.
-use Rattle.std.proofs.Common.{◌≡◌, List, [], ◌∷◌, ◌++◌, Option, Some, None, refl, sym, append-nil, append_assoc, ap}
+use Rattle.std.proofs.Common.{◌≡◌, List, [], ◌∷◌, ◌++◌, Option, refl, sym, append-nil, ap}
 use Rattle.tla_ast.specs.declared.place.Place.{Place}
 use Rattle.symbol_table.specs.declared.entry.Entry.{Entry}
 use Rattle.std.specs.Prelude.{ℕ}

@@ -53,7 +53,8 @@ impl Home<'_> {
     /// Appends what definitions are.
     fn push_each(&self, found: &mut Vec<Definition>, defs: &[Def]) -> Result<(), Memory>
         ensures { OnOk result (found.new.items ≡ found.old.items
-            ++ spec.each_definition (entries self.now) (means self.now) (syntax.each_def defs.now)) }
+            ++ spec.each_definition (entries self.now) (means self.now)
+            (syntax.each_def defs.now)) }
     {
         for def in defs {
             self.push_definition(found, def)?;
@@ -75,7 +76,8 @@ impl Home<'_> {
     /// Appends the definitions of steps and of their subproofs.
     #[cycle(proofs)]
     fn push_steps(&self, found: &mut Vec<Definition>, steps: &[Step]) -> Result<(), Memory>
-        ensures { OnOk result (found.new.items ≡ found.old.items ++ own.in_each self.now steps.now) }
+        ensures { OnOk result (found.new.items
+            ≡ found.old.items ++ own.in_each self.now steps.now) }
     {
         for step in steps {
             self.push_kind(found, &step.kind)?;

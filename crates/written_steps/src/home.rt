@@ -29,7 +29,8 @@ impl Home<'_> {
 
     /// The core of an expression.
     pub fn core(&self, node: &Node) -> Result<Expr, Memory>
-        ensures { IfOk result (λ e. e ≡ spec.core (means self.now) (entries self.now) (term_of node.now)) }
+        ensures { IfOk result (λ e. e
+            ≡ spec.core (means self.now) (entries self.now) (term_of node.now)) }
     {
         to_core(self.alloc, self.scoped, self.module, node, false)
     }

@@ -108,7 +108,8 @@ impl Home<'_> {
     /// A statement over cores.
     pub fn statement(&self, statement: &Source) -> Result<Statement, Memory>
         ensures { IfOk result (λ s. shown.statement_of s
-            ≡ spec.statement (means self.now) (entries self.now) (syntax.statement_of statement.now)) }
+            ≡ spec.statement (means self.now) (entries self.now)
+            (syntax.statement_of statement.now)) }
     {
         let items = self.items(statement.items.as_slice())?;
         let goal = self.core(&statement.goal)?;

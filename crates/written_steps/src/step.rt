@@ -217,7 +217,8 @@ impl Home<'_> {
     #[tactic(auto, using(crate::proofs::Moves::witnesses_are))]
     pub fn written(&self, outline: &Outline, kind: &StepKind) -> Result<Written, Memory>
         ensures acts { IfOk result (λ w. (l : Option ℕ) (q : Proof) → spec.acts_of l w q
-            ≡ acts (means self.now) (symbol_at outline.now) (entries self.now) l (move_of kind.now) q) }
+            ≡ acts (means self.now) (symbol_at outline.now) (entries self.now)
+            l (move_of kind.now) q) }
         ensures ends { IfOk result (λ w. spec.is_qed w ≡ spec.ends (move_of kind.now)) }
         ensures claims { IfOk result (λ w. spec.is_claim w ≡ spec.claims (move_of kind.now)) }
     {

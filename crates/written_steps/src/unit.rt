@@ -42,7 +42,8 @@ impl Home<'_> {
         statement: &Statement,
     ) -> Result<Option<Known>, Memory>
         ensures { IfOk result (λ o. adds_of o
-            ≡ spec.earlier (spec.number_of (means self.now) name.now) (spec.statement_fact (entries self.now) (means self.now)
+            ≡ spec.earlier (spec.number_of (means self.now) name.now)
+            (spec.statement_fact (entries self.now) (means self.now)
             (syntax.statement_of statement.now))) }
     {
         match self.number_of(name) {

@@ -1,6 +1,6 @@
 use Rattle.std.proofs.Common.{◌≡◌, [], ◌∷◌, map, sym, ap, ◌∙◌}
 use Rattle.symbol_table.specs.Symbols.{symbol_at}
-use Rattle.plain_syntax.specs.Syntax.{term_of, move_of, each_group}
+use Rattle.plain_syntax.specs.Syntax.{move_of, each_group}
 use Rattle.proof_contexts.specs.Steps.Step.{Pick}
 use Rattle.known_facts.specs.Shown.{items_of}
 use Rattle.proof_leaves.specs.Shown.{step_of}
