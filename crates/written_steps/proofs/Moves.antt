@@ -34,7 +34,7 @@ use Rattle.written_steps.specs.declared.home.Home.{Home}
 use Rattle.written_steps.specs.Homes.{means, entries}
 use Rattle.written_steps.specs.Moves as moves
 
-new-constant : (o : Option ℕ) → sym_of (moves.numbered o) ≡ spec.symbol kinds.Constant o
+new-constant : (o : Option ℕ) → sym_of (moves.numbered kinds.Constant o) ≡ spec.symbol kinds.Constant o
 new-constant None = refl
 new-constant (Some n) = refl
 

@@ -4,6 +4,7 @@ use Rattle.std.specs.Borrow.{Bor}
 use Rattle.tla_ast.specs.declared.tree.Decl.{Decl}
 use Rattle.tla_ast.specs.declared.tree.Node.{Node}
 use Rattle.tla_ast.specs.declared.tree.Group.{Group, out-Group}
+use Rattle.core_expr.specs.declared.head.SymKind.{SymKind}
 use Rattle.core_expr.specs.declared.head.SymKind.TheVariants.{Constant}
 use Rattle.core_expr.specs.Tree.{Tree}
 use Rattle.plain_syntax.specs.Plain.{Term}
@@ -21,9 +22,10 @@ use Rattle.usable_facts.specs.Proofs.{core, domain}
 use Rattle.written_steps.specs.declared.home.Home.{Home}
 use Rattle.written_steps.specs.Homes.{means, entries}
 
-abbrev pub numbered : Option ℕ → NewSymbol
-numbered None = record { kind = Constant; number = 0 }
-numbered (Some n) = record { kind = Constant; number = n }
+-- a new symbol by what its name means; its number is 0 where the text was not resolved
+abbrev pub numbered : SymKind → Option ℕ → NewSymbol
+numbered k None = record { kind = k; number = 0 }
+numbered k (Some n) = record { kind = k; number = n }
 
 -- the two sides of \in
 abbrev pub sides : Term → Option (Term × Term)
@@ -47,7 +49,7 @@ module _ (h : Home) where
 
   -- a new constant
   abbrev pub constant : Decl → NewSymbol
-  constant d = numbered (means h d.place)
+  constant d = numbered Constant (means h d.place)
 
   -- the core of a group's set
   abbrev pub group_set : Group → Option Tree

@@ -8,6 +8,7 @@ ghost use Rattle.plain_syntax.specs.Syntax as syntax;
 ghost use Rattle.known_facts.specs.Shown as shown;
 ghost use Rattle.usable_facts.specs.Proofs as spec;
 ghost use Rattle.written_steps.specs.Homes.{means, entries};
+ghost use Rattle.written_steps.specs.Moves.{numbered};
 
 use crate::home::Home;
 use core_expr::{Expr, Memory, SymKind};
@@ -18,7 +19,8 @@ use tla_ast::{Decl, Item as SourceItem, Node, Sort, Statement as Source};
 impl Home<'_> {
     /// A new symbol; its number is 0 where the text was not resolved.
     pub(crate) fn symbol(&self, kind: SymKind, name: &Decl) -> NewSymbol
-        ensures { shown.sym_of result ≡ spec.symbol kind (means self.now name.now.place) }
+        ensures new { result ≡ numbered kind (means self.now name.now.place) }
+        ensures symbol { shown.sym_of result ≡ spec.symbol kind (means self.now name.now.place) }
     {
         match self.meaning(name.place) {
             Some(number) => NewSymbol { kind, number },

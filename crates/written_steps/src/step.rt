@@ -12,7 +12,7 @@ ghost use Rattle.written_steps.specs.Moves as moves;
 
 use crate::home::Home;
 use core_expr::{Expr, Memory, SymKind};
-use known_facts::{Item, NewSymbol};
+use known_facts::Item;
 use proof_leaves::{Claim, Move};
 use proof_outline::Outline;
 use sqlite_items::Items;
@@ -64,22 +64,11 @@ fn sides(node: &Node) -> Option<(&Node, &Node)>
 }
 
 impl Home<'_> {
-    /// A new constant.
-    fn constant(&self, name: &Decl) -> NewSymbol
-        ensures { result ≡ moves.constant self.now name.now }
-    {
-        let kind = SymKind::Constant;
-        match self.meaning(name.place) {
-            Some(number) => NewSymbol { kind, number },
-            None => NewSymbol { kind, number: 0 },
-        }
-    }
-
     /// TAKE of a name.
     fn take(&self, set: &Option<Expr>, name: &Decl) -> Result<Move, Memory>
         ensures { IfOk result (λ m. m ≡ moves.take self.now set.now name.now) }
     {
-        let symbol = self.constant(name);
+        let symbol = self.symbol(SymKind::Constant, name);
         match set {
             Some(set) => Ok(Move::TakeIn(symbol, set.copy(self.alloc)?)),
             None => Ok(Move::Take(symbol)),
@@ -126,7 +115,7 @@ impl Home<'_> {
     fn choice(&self, set: &Option<Expr>, name: &Decl) -> Result<Item, Memory>
         ensures { IfOk result (λ i. i ≡ moves.choice self.now set.now name.now) }
     {
-        let symbol = self.constant(name);
+        let symbol = self.symbol(SymKind::Constant, name);
         match set {
             Some(set) => Ok(Item::NewIn(symbol, set.copy(self.alloc)?)),
             None => Ok(Item::New(symbol)),
