@@ -1,0 +1,6 @@
+mod Walks
+mod Keys
+mod Statements
+mod Facts
+mod Moves
+mod Defined

@@ -2,6 +2,7 @@
 use Rattle.std.specs.Prelude.{ℕ, Bool, true, false, List, [], ◌∷◌, map, Option}
 use Rattle.plain_syntax.specs.Plain.{Move as move}
 use Rattle.proof_contexts.specs.Steps.{Proof, Step}
+use Rattle.proof_leaves.specs.declared.step.Move.{Move}
 use Rattle.proof_leaves.specs.Shown.{step_of, claim_of}
 use Rattle.written_steps.specs.declared.step.Written.{Written}
 use Rattle.written_steps.specs.declared.step.Written.TheVariants.{Claimed, Moves, Qed}
@@ -11,6 +12,10 @@ abbrev pub acts_of : Option ℕ → Written → Proof → List Step
 acts_of l (Claimed c) q = claim_of l c q ∷ []
 acts_of l (Moves ms) q = map (step_of l) ms
 acts_of l Qed q = []
+
+-- one step without a proof of its own
+abbrev pub one : Move → Written
+one m = Moves (m ∷ [])
 
 abbrev pub is_qed : Written → Bool
 is_qed (Claimed c) = false

@@ -2,7 +2,7 @@
 
 ghost use Rattle.std.specs.Prelude.{◌≡◌, IfOk};
 ghost use Rattle.plain_syntax.specs.Syntax.{term_of};
-ghost use Rattle.usable_facts.specs.Proofs.{core};
+ghost use Rattle.usable_facts.specs.Proofs as spec;
 ghost use Rattle.written_steps.specs.Homes.{means, entries};
 
 use core_expr::{Expr, Memory};
@@ -29,7 +29,8 @@ impl Home<'_> {
 
     /// The core of an expression.
     pub fn core(&self, node: &Node) -> Result<Expr, Memory>
-        ensures { IfOk result (λ e. e ≡ core (means self.now) (entries self.now) (term_of node.now)) }
+        ensures { IfOk result (λ e. e
+            ≡ spec.core (means self.now) (entries self.now) (term_of node.now)) }
     {
         to_core(self.alloc, self.scoped, self.module, node, false)
     }

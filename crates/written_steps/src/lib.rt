@@ -1,4 +1,4 @@
-//! Written statements, facts, steps and definitions over cores: each expression by its core, each name by the number that it means.
+//! Written statements, facts, steps and definitions over cores: each expression by its core, each name by its number.
 //!
 //! To the layers above this crate promises that what it gives is what the definitions of usable facts say: [`Home::core`],
 //! [`Home::statement`], [`Home::facts`] and [`Home::numbers`] the core of an expression, a statement, facts of BY and the numbers
