@@ -24,6 +24,11 @@ abbrev pub going : Bool → Context → Option Context
 going true d = Some d
 going false d = None
 
+-- the context after a step is d; or there is none, and d is the one before it
+abbrev pub Goes : List Definition → Step → Context → Bool → Context → Type 0
+Goes defs s c true d = after defs s c ≡ Some d
+Goes defs s c false d = (after defs s c ≡ None) × (d ≡ c)
+
 -- A step without a proof of its own, at a place and in the context c, adds its leaves to ls, which makes them ms. The proof goes on
 -- in the context d, or a leaf says that it does not.
 abbrev pub Made : List Definition → Place → Step → Context → List Leaf → Bool → Context → List Leaf → Type 0

@@ -1,0 +1,4 @@
+pub mod Leaves
+pub mod Forms
+pub mod Steps
+pub mod Undone
