@@ -9,7 +9,7 @@ use Rattle.obligation.specs.declared.obligation.Definition.{Definition}
 use Rattle.known_facts.specs.declared.item.Quantifier.{Quantifier}
 use Rattle.known_facts.specs.declared.item.Quantifier.TheVariants.{All, Exists}
 use Rattle.known_facts.specs.Forms.{as_quantified, as_restricted}
-use Rattle.proof_contexts.specs.Contexts.{Context, Pair, as_in, given, same_set, if_within, within, all_in, ex_in}
+use Rattle.proof_contexts.specs.Contexts.{Context, Pair, as_in, given, same_set, if_within, within}
 use Rattle.proof_leaves.specs.Forms.{is_domain, body_over}
 
 pub same_yes : (a b : Tree) → a ≡ b → true ≡ same a b

@@ -1,5 +1,5 @@
 -- Leaves as the code makes them.
-use Rattle.std.proofs.Common.{◌≡◌, ℕ, Bool, true, false, cond, List, [], ◌∷◌, ap, sym, ◌∙◌}
+use Rattle.std.proofs.Common.{◌≡◌, ℕ, true, false, cond, List, ◌∷◌, ap}
 use Rattle.core_expr.specs.Tree.{Tree}
 use Rattle.tla_ast.specs.declared.place.Place.{Place}
 use Rattle.obligation.specs.declared.obligation.Definition.{Definition}

@@ -1,8 +1,7 @@
 -- What is known before a step is known after it.
 use Rattle.std.proofs.Common.{◌≡◌, ℕ, Bool, true, false, List, [], ◌∷◌, refl, sym, subst}
 use Rattle.std.specs.Prelude.{Option, Some, None, map}
-use Rattle.core_expr.specs.declared.head.Sym.{Sym}
-use Rattle.core_expr.specs.Tree.{Tree, imp_, in_}
+use Rattle.core_expr.specs.Tree.{imp_, in_}
 use Rattle.core_expr.specs.Put.{inst}
 use Rattle.obligation.specs.declared.obligation.Definition.{Definition}
 use Rattle.proof_contexts.specs.Expansion.{name}

@@ -1,6 +1,5 @@
 -- What the code does with steps: the leaves that it adds, the context that it leaves, and what it keeps of the one before.
 use Rattle.std.specs.Prelude.{◌≡◌, Bool, true, false, Option, Some, None, List, [], ◌∷◌, ◌++◌, length}
-use Rattle.core_expr.specs.Tree.{Tree}
 use Rattle.tla_ast.specs.declared.place.Place.{Place}
 use Rattle.obligation.specs.declared.obligation.Definition.{Definition}
 use Rattle.proof_contexts.specs.declared.leaf.Leaf.{Leaf}

@@ -1,6 +1,5 @@
 use Rattle.known_facts.specs.Shown.{items_of, context_of}
 use Rattle.known_facts.specs.Grown.{Grown}
-use Rattle.proof_contexts.specs.Contexts.{with_goal}
 use Rattle.known_facts.proofs.Growing.{grown-then}
 use Rattle.proof_leaves.proofs.Steps.{grows_by_fact, grows_by_items}
 use Rattle.std.proofs.Common.{subst, sym}

@@ -1,4 +1,4 @@
-use Rattle.std.proofs.Common.{◌≡◌, refl, sym, ap, ◌∙◌}
+use Rattle.std.proofs.Common.{ap, ◌∙◌}
 use Rattle.known_facts.specs.Shown.{context_of}
 use Rattle.proof_contexts.specs.Contexts.{with_goal}
 use Rattle.proof_leaves.proofs.Undone.{left_is}
