@@ -80,7 +80,9 @@ impl NewSymbol {
 /// A quantifier.
 #[derive(Clone, Copy, Debug)]
 pub enum Quantifier {
+    /// \A.
     All,
+    /// \E.
     Exists,
 }
 

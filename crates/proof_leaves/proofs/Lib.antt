@@ -1,1 +1,4 @@
-pub mod Inside
+pub mod Leaves
+pub mod Forms
+pub mod Steps
+pub mod Undone

@@ -1,6 +1,5 @@
 -- What the code does with steps: the leaves that it adds, the context that it leaves, and what it keeps of the one before.
 use Rattle.std.specs.Prelude.{◌≡◌, Bool, true, false, Option, Some, None, List, [], ◌∷◌, ◌++◌, length}
-use Rattle.core_expr.specs.Tree.{Tree}
 use Rattle.tla_ast.specs.declared.place.Place.{Place}
 use Rattle.obligation.specs.declared.obligation.Definition.{Definition}
 use Rattle.proof_contexts.specs.declared.leaf.Leaf.{Leaf}
@@ -23,6 +22,11 @@ ended p (Some d) = []
 abbrev pub going : Bool → Context → Option Context
 going true d = Some d
 going false d = None
+
+-- the context after a step is d; or there is none, and d is the one before it
+abbrev pub Goes : List Definition → Step → Context → Bool → Context → Type 0
+Goes defs s c true d = after defs s c ≡ Some d
+Goes defs s c false d = (after defs s c ≡ None) × (d ≡ c)
 
 -- A step without a proof of its own, at a place and in the context c, adds its leaves to ls, which makes them ms. The proof goes on
 -- in the context d, or a leaf says that it does not.

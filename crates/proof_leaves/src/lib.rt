@@ -5,6 +5,7 @@
 #![tactic(auto)]
 
 mod entering;
+mod goal;
 mod making;
 mod proof;
 mod step;

@@ -1,7 +1,7 @@
-use Rattle.std.proofs.Common.{◌≡◌, refl, sym, ap, ◌∙◌}
+use Rattle.std.proofs.Common.{ap, ◌∙◌}
 use Rattle.known_facts.specs.Shown.{context_of}
 use Rattle.proof_contexts.specs.Contexts.{with_goal}
-use Rattle.proof_leaves.proofs.Inside.{left_is}
+use Rattle.proof_leaves.proofs.Undone.{left_is}
 use Rattle.proof_leaves.proofs.entering.leave.Goals as goal
 
 pub returns : goal.returns

@@ -1,12 +1,12 @@
 -- What is taken off again behind a step's own proof.
-use Rattle.std.proofs.Common.{◌≡◌, ℕ, List, [], ◌∷◌, ◌++◌, take, length, refl, sym, ap, ◌∙◌}
+use Rattle.std.proofs.Common.{◌≡◌, ℕ, List, [], ◌∷◌, ◌++◌, take, length, refl, ap, ◌∙◌}
 use Rattle.std.specs.Prelude.{Option}
 use Rattle.core_expr.specs.Tree.{in_}
 use Rattle.obligation.specs.declared.obligation.Definition.{Definition}
 use Rattle.proof_contexts.specs.Expansion.{name}
 use Rattle.proof_contexts.specs.Steps.{Item, Step}
 use Rattle.proof_contexts.specs.Steps.Item.{New, NewIn, Given}
-use Rattle.proof_contexts.specs.Steps.Step.{Assert, Case, Suffices, Pick}
+use Rattle.proof_contexts.specs.Steps.Step.{Assert, Case, Suffices}
 use Rattle.proof_contexts.specs.Contexts.{Context, Entry, told, usable, add, with_goal, with_known, with_items, fact_of, inside}
 use Rattle.proof_leaves.specs.declared.entering.Entered.{Entered}
 use Rattle.proof_leaves.specs.Made.{IsInside, IsEntered}
