@@ -1,6 +1,9 @@
 pub mod Walking
+pub mod Runs
 pub mod Proofs
 pub mod Outlines
 pub mod Gathered
 pub mod Cited
+pub mod Citing
 pub mod Passing
+pub mod Reached
