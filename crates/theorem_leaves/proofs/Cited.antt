@@ -63,8 +63,8 @@ module _ (means : Place → Option ℕ) (cite : Place → Option ℕ) (entries :
 
   takes-cite : (l : Option ℕ) (gs : Groups) → acts-cite (takes means cite entries l gs) ≡ []
   takes-cite l end_groups = refl
-  takes-cite l (free ds gs) = none-behind _ _ (taken ds) (takes-cite l gs)
-  takes-cite l (within ds t gs) = none-behind _ _ (taken-in l (core means entries t) ds) (takes-cite l gs)
+  takes-cite l (free ds gs) = none-behind (map (λ d. act.Take (constant means cite entries d)) ds) (takes means cite entries l gs) (taken ds) (takes-cite l gs)
+  takes-cite l (within ds t gs) = none-behind (map (λ d. act.TakeIn l (constant means cite entries d) (core means entries t)) ds) (takes means cite entries l gs) (taken-in l (core means entries t) ds) (takes-cite l gs)
 
   infix-cites : (l : Option ℕ) (o : Text) (ts : Terms) (p : Place) → cites_step (witness means cite entries l (term (infixed o) ts p)) ≡ []
   infix-cites l o none p = refl

@@ -6,4 +6,7 @@ pub mod Gathered
 pub mod Cited
 pub mod Citing
 pub mod Passing
+pub mod Reading
+pub mod Reports
+pub mod Theorems
 pub mod Reached

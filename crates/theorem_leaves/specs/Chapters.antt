@@ -55,3 +55,16 @@ pub record IsReportOf (table : List Definition) (is_theorem : ℕ → Bool) (r :
   pub key : r.key ≡ x.key
   pub cited : r.cited ≡ chosen_keys is_theorem (cites x.proof)
   pub leaves : r.leaves ≡ theorem_leaves table x
+
+module _ (table : List Definition) (is_theorem : ℕ → Bool) where
+  -- the same number, each in its place
+  abbrev pub AreReports : List TheoremLeaves → List Theorem → Type 0
+  AreReports [] [] = Prim.Unit {0}
+  AreReports [] (x ∷ xs) = ⊥
+  AreReports (r ∷ rs) [] = ⊥
+  AreReports (r ∷ rs) (x ∷ xs) = IsReportOf table is_theorem r x × AreReports rs xs
+
+-- the theorems of all chapters, one after another
+abbrev pub reports_in : List Chapter → List TheoremLeaves
+reports_in [] = []
+reports_in (c ∷ cs) = c.theorems ++ reports_in cs
