@@ -104,8 +104,8 @@ module _ (means : Place → Option ℕ) (cite : Place → Option ℕ) (entries :
       → cites_steps (nexts q (acts means cite entries (label_key n w) m (proof_of means cite entries q (suc n) own)) (steps_of means cite entries p (suc n + count own) ss))
       ≡ step_keys means cite entries m (keys_in means cite entries own) ++ before_qed m (keys_in_steps means cite entries ss)
   by-acts q w m own ss p n h k r =
-      nexts-cite q _ _
-      ∙ (λ i. (acts-keys (label_key n w) m _ h ∙ ap (step_keys means cite entries m) k) i ++ r i)
+      nexts-cite q (acts means cite entries (label_key n w) m (proof_of means cite entries q (suc n) own)) (steps_of means cite entries p (suc n + count own) ss)
+      ∙ (λ i. (acts-keys (label_key n w) m (proof_of means cite entries q (suc n) own) h ∙ ap (step_keys means cite entries m) k) i ++ r i)
       ∙ ap (λ b. step_keys means cite entries m (keys_in means cite entries own) ++ (if b then [] else keys_in_steps means cite entries ss)) (sym h)
 
   mutual
