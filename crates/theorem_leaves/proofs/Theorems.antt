@@ -74,11 +74,15 @@ left-again l is c g =
     ap (λ w. with_goal (with_known (with_goal w g) (take (length c.known) w.known)) w.goal) (items-added l is c)
     ∙ ap (λ k. record { known = k; defs = c.defs; goal = c.goal }) (take-front c.known (added l is))
 
--- ---- theorems
+pub again : (is : List Item) (c t r p l n : Context) (g b : Tree) (mark : ℕ) → t ≡ with_items None is c → r ≡ with_goal t g → b ≡ t.goal → p ≡ r
+    → mark ≡ length c.known → l ≡ with_known p (take mark p.known) → n ≡ with_goal l b → n ≡ c
+again is c t r p l n g b mark told goal before kept marked left back =
+    let stays : p ≡ with_goal (with_items None is c) g = kept ∙ goal ∙ ap (λ t. with_goal t g) told in
+    back
+    ∙ (λ i. with_goal ((left ∙ (λ j. with_known (stays j) (take (marked j) (stays j).known))) i) ((before ∙ ap (λ t. t.goal) told) i))
+    ∙ left-again None is c g
 
--- nothing is added
-unchanged : (a : At) → a ≡ record { front = a.front; adds = a.adds; before = a.before + 0; theorems = a.theorems ++ [] }
-unchanged a = let same : a.before ≡ a.before + 0 = omega arith in λ j. record { front = a.front; adds = a.adds; before = same j; theorems = sym (append-nil a.theorems) j }
+-- ---- theorems
 
 module _ (table : List Definition) (is_theorem : ℕ → Bool) (entries : List declared) (means : Means) where
   pub reported-is : (i : ℕ) (ks : List Known) (w : Option Decl) (p : Place) (s : Statement) (own : Proof) (r : TheoremLeaves) (o : List (Place × ℕ)) (st : kept_statement) (c : Context)
@@ -89,9 +93,6 @@ module _ (table : List Definition) (is_theorem : ℕ → Bool) (entries : List d
       → r ≡ reported table is_theorem w p (theorem_of entries means i ks p w s own)
   reported-is i ks w p s own r o st c base names same key named at cited found = λ j. record { key = key j; name = named j; place = at j; cited = cites j; leaves = shown j }
     where
-      x : Theorem
-      x = theorem_of entries means i ks p w s own
-
       cites : r.cited ≡ (reported table is_theorem w p (theorem_of entries means i ks p w s own)).cited
       cites =
           cited ∙ ap (λ o. chosen_keys is_theorem (keys_in means (symbol_at o) entries own)) names
@@ -103,62 +104,3 @@ module _ (table : List Definition) (is_theorem : ℕ → Bool) (entries : List d
           ∙ ap (λ t. leaves table (proof_of means (symbol_at (cites_in (outline own))) entries p 0 own) (with_goal (with_items None t.items c) t.goal)) same
           ∙ ap (leaves table (proof_of means (symbol_at (cites_in (outline own))) entries p 0 own))
               (same-start None (statement means entries s).items c (before_it (theorem_of entries means i ks p w s own)) (statement means entries s).goal base.0 base.1)
-
-  -- ---- units
-
-  -- a unit that is a theorem, with what is told of it
-  pub report-at : (r q : Reading) (a : At) (k : u) (w : Option Decl) (s : Statement) (own : Proof) (p : Place) (found : TheoremLeaves) → k ≡ u.theorem w s own
-      → context_of q.context ≡ context_of r.context → q.adds ≡ r.adds → q.before ≡ r.before + 1 → q.theorems ≡ r.theorems ++ found ∷ []
-      → ((ks : List Known) → IsBase ks (context_of r.context) → found ≡ reported table is_theorem w p (theorem_of entries means r.before ks p w s own))
-      → IsAt r a → IsAt q (report_unit table is_theorem entries means p k a)
-  report-at r q a k w s own p found e kept adds before theorems is at =
-      subst (λ k. IsAt q (report_unit table is_theorem entries means p k a)) (sym e)
-          (record {
-            base = subst (IsBase (a.front ++ a.adds)) (sym kept) at.base;
-            adds = ap (map known_of) adds ∙ at.adds;
-            before = before ∙ ap (λ n. n + 1) at.before;
-            theorems =
-                theorems
-                ∙ (λ j. at.theorems j ++ is (a.front ++ a.adds) at.base j ∷ [])
-                ∙ ap (λ n. a.theorems ++ reported table is_theorem w p (theorem_of entries means n (a.front ++ a.adds) p w s own) ∷ []) at.before;
-          })
-
-  -- and one that is none
-  pub report-none : (r : Reading) (a : At) (p : Place) (kind : UnitKind) → ((w : _) (s : _) (own : _) → kind ≡ source.Theorem w s own → ⊥) → IsAt r a
-      → IsAt r (report_unit table is_theorem entries means p (kind_of kind) a)
-  report-none r a p (source.Theorem w s own) none at = absurd (none w s own refl)
-  report-none r a p (source.Constants ds) none at = subst (IsAt r) (unchanged a) at
-  report-none r a p (source.Variables ds) none at = subst (IsAt r) (unchanged a) at
-  report-none r a p (source.Assume w n) none at = subst (IsAt r) (unchanged a) at
-  report-none r a p (source.Define d) none at = subst (IsAt r) (unchanged a) at
-
-map-append : (xs ys : List Known) → map entry_of (xs ++ ys) ≡ map entry_of xs ++ map entry_of ys
-map-append [] ys = refl
-map-append (x ∷ xs) ys = ap (λ l. entry_of x ∷ l) (map-append xs ys)
-
-known-append : (xs ys : List kept_known) → map known_of (xs ++ ys) ≡ map known_of xs ++ map known_of ys
-known-append [] ys = refl
-known-append (x ∷ xs) ys = ap (λ l. known_of x ∷ l) (known-append xs ys)
-
--- one more fact is known
-pub tell-at : (r q : Reading) (a : At) (k : kept_known) (us : List Known) → known_of k ∷ [] ≡ us
-    → context_of q.context ≡ add (context_of r.context) (entry_of (known_of k)) → q.adds ≡ r.adds ++ k ∷ [] → q.before ≡ r.before → q.theorems ≡ r.theorems
-    → IsAt r a → IsAt q (record { front = a.front; adds = a.adds ++ us; before = a.before; theorems = a.theorems })
-tell-at r q a k us e more adds before theorems at =
-    subst (λ us. IsAt q (record { front = a.front; adds = a.adds ++ us; before = a.before; theorems = a.theorems })) e
-        (record {
-          base =
-              (ap (λ c. c.known) more
-                  ∙ ap (λ l. l ++ entry_of (known_of k) ∷ []) at.base.0
-                  ∙ sym (map-append (a.front ++ a.adds) (known_of k ∷ []))
-                  ∙ ap (map entry_of) (append_assoc a.front a.adds (known_of k ∷ [])),
-               ap (λ c. c.defs) more ∙ at.base.1);
-          adds = ap (map known_of) adds ∙ known-append r.adds (k ∷ []) ∙ ap (λ l. l ++ known_of k ∷ []) at.adds;
-          before = before ∙ at.before;
-          theorems = theorems ∙ at.theorems;
-        })
-
-pub tell-none : (r : Reading) (a : At) (us : List Known) → [] ≡ us → IsAt r a → IsAt r (record { front = a.front; adds = a.adds ++ us; before = a.before; theorems = a.theorems })
-tell-none r a us e at =
-    subst (λ us. IsAt r (record { front = a.front; adds = a.adds ++ us; before = a.before; theorems = a.theorems })) e
-        (subst (IsAt r) (λ j. record { front = a.front; adds = sym (append-nil a.adds) j; before = a.before; theorems = a.theorems }) at)
