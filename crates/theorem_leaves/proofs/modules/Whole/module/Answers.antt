@@ -25,12 +25,9 @@ returns c = λ a passed.
     let before : Reading = record { context = c.in_ok-bring.field-0; adds = c.new.result; before = old.before; theorems = c.new-2.result } in
     let at = subst (λ us. IsAt c.units.new.reading (pass_units table is w.scoped.now.entries (symbol w.scoped.now m) (map unit_of us) begun)) c.as_slice-5.ensures
         (c.in_ok-units.ensures begun (start-at before (brought a.done ws) a.before base c.new.ensures passed.before c.new-2.ensures)) in
-    let d : Done = record { name = c.in_ok-of.field-0; reaches = c.names.inside.items.items; adds = c.adds.inside.items.items } in
-    let h : Chapter = record { name = c.in_ok-of-2.field-0; theorems = c.theorems.inside.items.items } in
-    let d-reaches : c.names.inside.items.items ≡ names = cc (c.names.view_is) in
-    let d-adds : c.adds.inside.items.items ≡ c.units.new.reading.adds = cc (c.adds.view_is) in
-    let h-theorems : c.theorems.inside.items.items ≡ c.units.new.reading.theorems = cc (c.theorems.view_is) in
+    let d : Done = record { name = c.in_ok-of.field-0; reaches = names; adds = c.units.new.reading.adds } in
+    let h : Chapter = record { name = c.in_ok-of-2.field-0; theorems = c.units.new.reading.theorems } in
     let new : Modules = record { done = c.push.new.self; before = c.units.new.reading.before; chapters = c.push-2.new.self } in
     module-passed table is w.scoped.now m (module_of x) a old new c.units.new.reading names d h reached at
-        (c.in_ok-of.ensures ∙ c.bytes.ensures) d-reaches d-adds (c.in_ok-of-2.ensures ∙ c.bytes-2.ensures) h-theorems
+        (c.in_ok-of.ensures ∙ c.bytes.ensures) refl refl (c.in_ok-of-2.ensures ∙ c.bytes-2.ensures) refl
         c.in_ok-push.ensures.items refl c.in_ok-push-2.ensures.ok passed
