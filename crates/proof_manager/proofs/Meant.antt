@@ -41,7 +41,7 @@ use Rattle.status_report.specs.Report.{all_theorems as reported_theorems, status
 use Rattle.status_report.specs.Laws.{StandsFor, StandFor, StatusesAgree}
 use Rattle.theorem_leaves.specs.declared.chapter.TheoremLeaves.{TheoremLeaves}
 use Rattle.theorem_leaves.specs.declared.chapter.Chapter.{Chapter}
-use Rattle.theorem_leaves.specs.Chapters.{chapters_of, IsReportOf, AreReports, theorems_in, ChaptersReport}
+use Rattle.theorem_leaves.specs.Chapters.{chapters_of, IsReportOf, AreReports, reports_in, ChaptersReport}
 use Rattle.proof_manager.specs.Judging.{Answer, and_then, each, shown_answer, searched, shown_kind, judged_leaf, judged_theorem, judged_module, judged, as_verdict, verdict_on, form}
 use Rattle.proof_manager.specs.Reading.{Read, modules_fault, resolved, checked, read_with, read_of, as_outcome, reading}
 use Rattle.proof_manager.specs.Causes.{IsRead, OfKind, OfLeaves, OfTheorems, OfChapters, IsJustForm, IsJust, IsDecidedForm, IsDecided, ReadIsJust, ReadIsDecided}
@@ -138,7 +138,7 @@ module _ (es : List Entry) where
         subst (λ l. StandFor table is_theorem verdict_on (l ++ others) (x ∷ xs)) (ok-is b.2)
         ((theorem-stands owner t a.0 x a.1 r.0).1, theorems-stand owner ts b.0 more others xs b.1 r.1 rest)
 
-    chapters-stand : (cs : List Chapter) (js : List ModuleIn) (xs : List Theorem) → judged es cs ≡ Ok js → AreReports table is_theorem (theorems_in cs) xs → StandFor table is_theorem verdict_on (reported_theorems js) xs
+    chapters-stand : (cs : List Chapter) (js : List ModuleIn) (xs : List Theorem) → judged es cs ≡ Ok js → AreReports table is_theorem (reports_in cs) xs → StandFor table is_theorem verdict_on (reported_theorems js) xs
     chapters-stand [] js [] e r = subst (λ l. StandFor table is_theorem verdict_on (reported_theorems l) []) (ok-is e) tt
     chapters-stand [] js (x ∷ xs) e r = absurd r
     chapters-stand (c ∷ cs) js xs e r =
@@ -147,7 +147,7 @@ module _ (es : List Entry) where
         let t = from-value (each (judged_theorem es c.name) c.theorems) _ a.0 a.1 in
         subst (λ l. StandFor table is_theorem verdict_on (reported_theorems l) xs) (ok-is b.2)
         (subst (λ (m : ModuleIn). StandFor table is_theorem verdict_on (m.theorems ++ reported_theorems b.0) xs) (ok-is t.2)
-        (theorems-stand c.name c.theorems t.0 (theorems_in cs) (reported_theorems b.0) xs t.1 r (λ ys h. chapters-stand cs b.0 ys b.1 h)))
+        (theorems-stand c.name c.theorems t.0 (reports_in cs) (reported_theorems b.0) xs t.1 r (λ ys h. chapters-stand cs b.0 ys b.1 h)))
 
 -- ---- what is so of propositional forms is so of all that are answered
 

@@ -63,8 +63,8 @@ module _ (means : Place → Option ℕ) (cite : Place → Option ℕ) (entries :
 
   takes-cite : (l : Option ℕ) (gs : Groups) → acts-cite (takes means cite entries l gs) ≡ []
   takes-cite l end_groups = refl
-  takes-cite l (free ds gs) = none-behind _ _ (taken ds) (takes-cite l gs)
-  takes-cite l (within ds t gs) = none-behind _ _ (taken-in l (core means entries t) ds) (takes-cite l gs)
+  takes-cite l (free ds gs) = none-behind (map (λ d. act.Take (constant means cite entries d)) ds) (takes means cite entries l gs) (taken ds) (takes-cite l gs)
+  takes-cite l (within ds t gs) = none-behind (map (λ d. act.TakeIn l (constant means cite entries d) (core means entries t)) ds) (takes means cite entries l gs) (taken-in l (core means entries t) ds) (takes-cite l gs)
 
   infix-cites : (l : Option ℕ) (o : Text) (ts : Terms) (p : Place) → cites_step (witness means cite entries l (term (infixed o) ts p)) ≡ []
   infix-cites l o none p = refl
@@ -104,8 +104,8 @@ module _ (means : Place → Option ℕ) (cite : Place → Option ℕ) (entries :
       → cites_steps (nexts q (acts means cite entries (label_key n w) m (proof_of means cite entries q (suc n) own)) (steps_of means cite entries p (suc n + count own) ss))
       ≡ step_keys means cite entries m (keys_in means cite entries own) ++ before_qed m (keys_in_steps means cite entries ss)
   by-acts q w m own ss p n h k r =
-      nexts-cite q _ _
-      ∙ (λ i. (acts-keys (label_key n w) m _ h ∙ ap (step_keys means cite entries m) k) i ++ r i)
+      nexts-cite q (acts means cite entries (label_key n w) m (proof_of means cite entries q (suc n) own)) (steps_of means cite entries p (suc n + count own) ss)
+      ∙ (λ i. (acts-keys (label_key n w) m (proof_of means cite entries q (suc n) own) h ∙ ap (step_keys means cite entries m) k) i ++ r i)
       ∙ ap (λ b. step_keys means cite entries m (keys_in means cite entries own) ++ (if b then [] else keys_in_steps means cite entries ss)) (sym h)
 
   mutual

@@ -56,19 +56,21 @@ pub record IsReportOf (table : List Definition) (is_theorem : ℕ → Bool) (r :
   pub cited : r.cited ≡ chosen_keys is_theorem (cites x.proof)
   pub leaves : r.leaves ≡ theorem_leaves table x
 
--- these are told of those theorems, one after another
-abbrev pub AreReports : List Definition → (ℕ → Bool) → List TheoremLeaves → List Theorem → Type 0
-AreReports table is_theorem [] [] = Prim.Unit {0}
-AreReports table is_theorem [] (x ∷ xs) = ⊥
-AreReports table is_theorem (r ∷ rs) [] = ⊥
-AreReports table is_theorem (r ∷ rs) (x ∷ xs) = IsReportOf table is_theorem r x × AreReports table is_theorem rs xs
+module _ (table : List Definition) (is_theorem : ℕ → Bool) where
+  -- the same number, each in its place
+  abbrev pub AreReports : List TheoremLeaves → List Theorem → Type 0
+  AreReports [] [] = Prim.Unit {0}
+  AreReports [] (x ∷ xs) = ⊥
+  AreReports (r ∷ rs) [] = ⊥
+  AreReports (r ∷ rs) (x ∷ xs) = IsReportOf table is_theorem r x × AreReports rs xs
 
-abbrev pub theorems_in : List Chapter → List TheoremLeaves
-theorems_in [] = []
-theorems_in (c ∷ cs) = c.theorems ++ theorems_in cs
+-- the theorems of all chapters, one after another
+abbrev pub reports_in : List Chapter → List TheoremLeaves
+reports_in [] = []
+reports_in (c ∷ cs) = c.theorems ++ reports_in cs
 
--- the theorems of the chapters are the theorems of the modules
+-- The theorems of the chapters are told of the theorems of the modules, one after another.
 abbrev pub ChaptersReport : Type 0
 ChaptersReport =
     (ms : List Module) (t : Table)
-    → AreReports (definitions_of ms t) (is_theorem_of ms t) (theorems_in (chapters_of ms t)) (all_theorems ms t)
+    → AreReports (definitions_of ms t) (is_theorem_of ms t) (reports_in (chapters_of ms t)) (all_theorems ms t)

@@ -4,7 +4,7 @@ use Rattle.std_names.specs.Libraries.{is_library}
 use Rattle.tla_ast.specs.declared.unit.Module.{Module as source_module}
 use Rattle.plain_syntax.specs.Plain.{Text}
 use Rattle.plain_syntax.specs.Syntax.{module_of}
-use Rattle.proof_contexts.specs.Contexts.{Context, add}
+use Rattle.proof_contexts.specs.Contexts.{Context, Entry, add}
 use Rattle.proof_contexts.specs.Expansion.{has_number}
 use Rattle.proof_contexts.specs.Theorems.{entry_of}
 use Rattle.known_facts.specs.Clean.{definitions_of}
@@ -32,6 +32,11 @@ told ks c = fold (λ d k. add d (entry_of (known_of k))) c ks
 
 abbrev pub Tells : List Known → Context → Context → Type 0
 Tells ks c d = d ≡ told ks c
+
+-- what those of the modules with these names add, as known facts of a context
+abbrev pub brings : List Done → List Text → List Entry
+brings [] ws = []
+brings (d ∷ ds) ws = if usable.is_reached ws d.name then map entry_of (map known_of d.adds) ++ brings ds ws else brings ds ws
 
 module _ (w : Whole) where
   abbrev pub passed_module : ℕ → source_module → Passed → Passed

@@ -42,6 +42,20 @@ pub record IsAt (r : Reading) (a : At) : Type 0 where
   pub theorems : r.theorems ≡ a.theorems
 
 module _ (table : List Definition) (is_theorem : ℕ → Bool) (entries : List Entry) where
+  -- after a unit's theorem, if it is one
+  abbrev pub report_unit : Means → Place → u → At → At
+  report_unit means p k a =
+      record {
+        front = a.front;
+        adds = a.adds;
+        before = a.before + theorems_in k;
+        theorems = a.theorems ++ unit_reported table is_theorem entries means a.before (a.front ++ a.adds) p k;
+      }
+
+  -- after what a unit adds to what is known
+  abbrev pub tell_unit : Means → u → At → At
+  tell_unit means k a = record { front = a.front; adds = a.adds ++ unit_adds entries means k; before = a.before; theorems = a.theorems }
+
   abbrev pub pass_unit : Means → Place → u → At → At
   pass_unit means p k a =
       record {

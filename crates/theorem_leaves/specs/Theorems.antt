@@ -27,7 +27,7 @@ use Rattle.theorem_leaves.specs.declared.chapter.TheoremLeaves.{TheoremLeaves}
 use Rattle.theorem_leaves.specs.declared.units.Setting.{Setting}
 use Rattle.theorem_leaves.specs.declared.units.Written.{Written}
 use Rattle.theorem_leaves.specs.Chapters.{reported}
-use Rattle.theorem_leaves.specs.Passing.{At, pass_unit, pass_units}
+use Rattle.theorem_leaves.specs.Passing.{At, report_unit, tell_unit, pass_units}
 
 -- a proof that is missing cites no step
 abbrev pub NoneCited : Type 0
@@ -57,8 +57,11 @@ module _ (s : Setting) where
       r ≡ reported table is_theorem w.name.now w.place
           (theorem_of entries means i ks w.place w.name.now (statement_of w.statement.now) (plain_proof w.proof.now))
 
-  abbrev pub passed_unit : source_unit → At → At
-  passed_unit x = pass_unit table is_theorem entries means (unit_of x).place (unit_of x).kind
+  abbrev pub reported_unit : source_unit → At → At
+  reported_unit x = report_unit table is_theorem entries means (unit_of x).place (unit_of x).kind
+
+  abbrev pub told_unit : source_unit → At → At
+  told_unit x = tell_unit table is_theorem entries means (unit_of x).kind
 
   abbrev pub passed_units : List source_unit → At → At
   passed_units xs = pass_units table is_theorem entries means (map unit_of xs)

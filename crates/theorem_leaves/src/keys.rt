@@ -52,7 +52,6 @@ impl Keys {
 }
 
 /// The keys of the theorems of modules.
-#[tactic(auto, using(crate::proofs::Gathered::all_kept))]
 pub fn theorem_keys(
     alloc: Global,
     scoped: &Scoped,

@@ -7,10 +7,12 @@
 mod chapter;
 mod citations;
 mod keys;
+mod laws;
 mod modules;
 mod number;
 mod units;
 mod walk;
 
 pub use chapter::{Chapter, TheoremLeaves};
+pub use laws::chapters_report;
 pub use modules::chapters;

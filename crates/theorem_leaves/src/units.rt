@@ -11,7 +11,7 @@ ghost use Rattle.proof_outline.specs.Outline as outlines;
 ghost use Rattle.usable_facts.specs.Theorems.{cites_in};
 ghost use Rattle.theorem_leaves.specs.Chapters.{name_of};
 ghost use Rattle.theorem_leaves.specs.Passing.{At, IsAt, IsBase};
-ghost use Rattle.theorem_leaves.specs.Theorems.{LeavesOf, IsReported, passed_unit, passed_units};
+ghost use Rattle.theorem_leaves.specs.Theorems.{LeavesOf, IsReported, reported_unit, told_unit, passed_units};
 
 use crate::chapter::TheoremLeaves;
 use crate::citations::Citations;
@@ -125,7 +125,8 @@ impl Setting<'_> {
         theorem: Written,
     ) -> Result<TheoremLeaves, Memory>
         requires { HasSuspects self.now.table.now }
-        ensures reported { IfOk result (λ r. (ks : List known) → IsBase ks (context_of context.old) → IsReported self.now before ks theorem.entry r) }
+        ensures reported { IfOk result (λ r. (ks : List known) → IsBase ks (context_of context.old)
+            → IsReported self.now before ks theorem.entry r) }
         ensures kept { OnOk result (context_of context.new ≡ context_of context.old) }
     {
         let alloc = self.home.alloc;
@@ -147,41 +148,54 @@ impl Setting<'_> {
         })
     }
 
-    /// A unit.
-    fn unit(&self, reading: &mut Reading, unit: &Unit) -> Result<(), Memory>
+    /// The theorem of a unit, if it is one.
+    fn report(&self, reading: &mut Reading, unit: &Unit) -> Result<(), Memory>
         requires { HasSuspects self.now.table.now }
-        ensures { OnOk result ((a : At) → IsAt reading.old a → IsAt reading.new (passed_unit self.now unit.now a)) }
+        ensures { OnOk result ((a : At) → IsAt reading.old a
+            → IsAt reading.new (reported_unit self.now unit.now a)) }
     {
-        if let UnitKind::Theorem {
+        let UnitKind::Theorem {
             name,
             statement,
             proof,
         } = &unit.kind
-        {
-            let theorem = Written {
-                place: unit.place,
-                name,
-                statement,
-                proof,
-            };
-            let found = self.theorem(&mut reading.context, reading.before, theorem)?;
-            reading.theorems.push(found)?;
-            reading.before = reading.before.checked_add(1).ok_or(Memory)?;
-        }
-        if let Some(known) = self.home.unit_adds(&unit.kind)? {
-            known.tell(self.home.alloc, &mut reading.context)?;
-            reading.adds.push(known)?;
-        }
+        else {
+            return Ok(());
+        };
+        let theorem = Written {
+            place: unit.place,
+            name,
+            statement,
+            proof,
+        };
+        let found = self.theorem(&mut reading.context, reading.before, theorem)?;
+        reading.theorems.push(found)?;
+        reading.before = reading.before.checked_add(1).ok_or(Memory)?;
+        Ok(())
+    }
+
+    /// What a unit adds to what is known.
+    fn tell(&self, reading: &mut Reading, unit: &Unit) -> Result<(), Memory>
+        ensures { OnOk result ((a : At) → IsAt reading.old a
+            → IsAt reading.new (told_unit self.now unit.now a)) }
+    {
+        let Some(known) = self.home.unit_adds(&unit.kind)? else {
+            return Ok(());
+        };
+        known.tell(self.home.alloc, &mut reading.context)?;
+        reading.adds.push(known)?;
         Ok(())
     }
 
     /// Units.
     pub fn units(&self, reading: &mut Reading, units: &[Unit]) -> Result<(), Memory>
         requires { HasSuspects self.now.table.now }
-        ensures { OnOk result ((a : At) → IsAt reading.old a → IsAt reading.new (passed_units self.now units.now a)) }
+        ensures { OnOk result ((a : At) → IsAt reading.old a
+            → IsAt reading.new (passed_units self.now units.now a)) }
     {
         for unit in units {
-            self.unit(reading, unit)?;
+            self.report(reading, unit)?;
+            self.tell(reading, unit)?;
         }
         Ok(())
     }
