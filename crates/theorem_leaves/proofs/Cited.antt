@@ -17,7 +17,7 @@ use Rattle.prime_expand.specs.Symbols.{is_word}
 use Rattle.proof_contexts.specs.Steps as c
 use Rattle.proof_contexts.specs.Steps.{Step as act}
 use Rattle.proof_contexts.specs.Statuses.{cites_facts, cites, cites_steps, cites_step}
-use Rattle.usable_facts.specs.Keys.{label_key, step_key, entry_key}
+use Rattle.usable_facts.specs.Keys.{label_key}
 use Rattle.usable_facts.specs.Proofs.{count, core, constant, by_step, by_term, step_keys as named_step, entry_keys, fact_name, facts, hidden, takes, witness, witnesses, acts, nexts, proof_of, steps_of}
 use Rattle.theorem_leaves.specs.Citations.{is_qed, before_qed, step_keys, keys_in, keys_in_steps}
 
@@ -77,7 +77,7 @@ module _ (means : Place → Option ℕ) (cite : Place → Option ℕ) (entries :
       go false = refl
 
   witness-cites : (l : Option ℕ) (t : Term) → cites_step (witness means cite entries l t) ≡ []
-  witness-cites l (term s ts p) = elim s as (λ s. cites_step (witness means cite entries l (term s ts p)) ≡ []) [ | infixed o ↦ infix-cites l o ts p | _ ↦ refl ]
+  witness-cites l (term s ts p) = elim s as (λ s. cites_step (witness means cite entries l (term s ts p)) ≡ []) [ infixed o ↦ infix-cites l o ts p | _ ↦ refl ]
 
   witnesses-cite : (l : Option ℕ) (ts : Terms) → acts-cite (witnesses means cite entries l ts) ≡ []
   witnesses-cite l none = refl

@@ -1,19 +1,16 @@
 -- Citations in proofs of the source, form by form.
-use Rattle.std.proofs.Common.{◌≡◌, ℕ, ◌+◌, ◌<◌, Bool, true, false, if◌then◌else◌, List, [], ◌∷◌, ◌++◌, map, drop, length, slice_index_or, append_assoc, refl, sym, ap, subst, ◌∙◌}
+use Rattle.std.proofs.Common.{◌≡◌, ℕ, ◌+◌, ◌<◌, Bool, true, false, if◌then◌else◌, List, [], ◌∷◌, ◌++◌, map, drop, length, slice_index_or, append_assoc, refl, sym, ap, ◌∙◌}
 use Rattle.std.specs.Prelude.{Option, not}
-use Rattle.std.proofs.lemmas.List.{append-nil}
 use Rattle.tla_ast.specs.declared.place.Place.{Place}
 use Rattle.tla_ast.specs.declared.tree.Decl.{Decl}
 use Rattle.tla_ast.specs.declared.unit.Fact.{Fact as source_fact}
 use Rattle.tla_ast.specs.declared.unit.Step.{Step as written, out-Step}
-use Rattle.tla_ast.specs.declared.unit.StepKind.{StepKind}
-use Rattle.tla_ast.specs.declared.unit.StepKind.TheVariants as k
 use Rattle.tla_ast.specs.declared.unit.Proof.{Proof as source, out-Proof, roll-Proof, roll-out-Proof}
 use Rattle.tla_ast.specs.declared.unit.Proof.TheFolds.{fold-roll-Proof, fold_out-Step}
 use Rattle.tla_ast.specs.declared.unit.Proof.TheOpen.{Proof-F}
 use Rattle.tla_ast.specs.declared.unit.Proof.TheVariants as source
 use Rattle.symbol_table.specs.declared.entry.Entry.{Entry}
-use Rattle.plain_syntax.specs.Plain.{Steps, Move as move}
+use Rattle.plain_syntax.specs.Plain.{Steps}
 use Rattle.plain_syntax.specs.Plain.Steps.{end_steps, step}
 use Rattle.plain_syntax.specs.Syntax.{proof_of as plain_proof, proof_step, step_step, fact_of, move_of, joined}
 use Rattle.usable_facts.specs.Proofs.{hidden}
@@ -32,22 +29,6 @@ chosen-append p (x ∷ xs) ys = by (p x) (chosen-append p xs ys)
         → (if b then x ∷ chosen_keys p (xs ++ ys) else chosen_keys p (xs ++ ys)) ≡ (if b then x ∷ chosen_keys p xs else chosen_keys p xs) ++ chosen_keys p ys
     by true e = ap (λ l. x ∷ l) e
     by false e = e
-
--- one more key
-pub chosen-more : (p : ℕ → Bool) (ks now : List ℕ) (i : ℕ) (x : ℕ) (all : List ℕ) → now ++ chosen_keys p (drop i ks) ≡ all → i < length ks → x ≡ slice_index_or ks i x → p x ≡ true
-    → (now ++ x ∷ []) ++ chosen_keys p (drop (i + 1) ks) ≡ all
-chosen-more p ks now i x all before within is h =
-    append_assoc now (x ∷ []) (chosen_keys p (drop (i + 1) ks))
-    ∙ ap (λ (b : Bool). now ++ (if b then x ∷ chosen_keys p (drop (i + 1) ks) else chosen_keys p (drop (i + 1) ks))) (sym h)
-    ∙ ap (λ l. now ++ chosen_keys p l) (sym (next-one ks i x within is))
-    ∙ before
-
-pub chosen-other : (p : ℕ → Bool) (ks now : List ℕ) (i : ℕ) (x : ℕ) (all : List ℕ) → now ++ chosen_keys p (drop i ks) ≡ all → i < length ks → x ≡ slice_index_or ks i x → p x ≡ false
-    → now ++ chosen_keys p (drop (i + 1) ks) ≡ all
-chosen-other p ks now i x all before within is h =
-    ap (λ (b : Bool). now ++ (if b then x ∷ chosen_keys p (drop (i + 1) ks) else chosen_keys p (drop (i + 1) ks))) (sym h)
-    ∙ ap (λ l. now ++ chosen_keys p l) (sym (next-one ks i x within is))
-    ∙ before
 
 -- ---- proofs and steps
 
@@ -78,10 +59,6 @@ module _ (means : Place → Option ℕ) (cite : Place → Option ℕ) (entries :
         | _ ↦ λ e. ap (keys_in means cite entries) (ap plain_proof (sym (roll-out-Proof p) ∙ ap roll-Proof e) ∙ fold-roll-Proof _ _ proof_step step_step _)
       ]) refl
 
-  -- the keys of a step, by what it is
-  pub own-keys : (kind : StepKind) (own : List ℕ) (m : move) → move_of kind ≡ m → step_keys means cite entries m own ≡ own → step_keys means cite entries (move_of kind) own ≡ own
-  own-keys kind own m e h = ap (λ m. step_keys means cite entries m own) e ∙ h
-
   -- the keys of steps, one after another
   abbrev One : written → List ℕ
   One s = step_keys means cite entries (move_of (out-Step s).kind) (keys_in means cite entries (plain_proof (out-Step s).proof))
@@ -104,20 +81,3 @@ module _ (means : Place → Option ℕ) (cite : Place → Option ℕ) (entries :
       going : (b : Bool) → not b ≡ true → rest ≡ (if b then [] else rest)
       going true h = cc
       going false h = refl
-
-  pub steps-qed : (p : ℕ → Bool) (ss : List written) (now new : List ℕ) (i : ℕ) (s : written) (all : List ℕ)
-      → now ++ chosen_keys p (keys_in_all means cite entries (drop i ss)) ≡ all → i < length ss → s ≡ slice_index_or ss i s → not (is_qed (move_of (out-Step s).kind)) ≡ false
-      → new ≡ now ++ chosen_keys p (One s) → new ≡ all
-  steps-qed p ss now new i s all before within is on more =
-      more
-      ∙ ap (λ l. now ++ chosen_keys p l) (sym (append-nil (One s)))
-      ∙ ap (λ l. now ++ chosen_keys p (One s ++ l)) (ending (is_qed (move_of (out-Step s).kind)) on)
-      ∙ ap (λ l. now ++ chosen_keys p (keys_in_all means cite entries l)) (sym (next-one ss i s within is))
-      ∙ before
-    where
-      rest : List ℕ
-      rest = keys_in_all means cite entries (drop (i + 1) ss)
-
-      ending : (b : Bool) → not b ≡ false → [] ≡ (if b then [] else rest)
-      ending true h = refl
-      ending false h = cc

@@ -62,11 +62,12 @@ kept-units : (means : Means) (xs : List Unit) (k : Kept) (keys : List ℕ) → H
 kept-units means [] k keys h = (subst (HasKeys k.found) (sym (append-nil keys)) h, omega arith)
 kept-units means (x ∷ xs) k keys h =
     let one = kept-unit means x.kind k keys h in
-    let more = kept-units means xs (keep_unit means x.kind k) (keys ++ unit_keys means k.before x.kind) one.0 in
-    (subst (HasKeys (keep_units means xs (keep_unit means x.kind k)).found)
-        (append_assoc keys (unit_keys means k.before x.kind) (units_keys means (keep_unit means x.kind k).before xs)
-        ∙ ap (λ n. keys ++ (unit_keys means k.before x.kind ++ units_keys means n xs)) one.1) more.0,
-     more.1 ∙ ap (λ n. n + count_theorems xs) one.1 ∙ add_assoc k.before (theorems_in x.kind) (count_theorems xs))
+    let more = kept-units means xs (keep_unit means x.kind k) (keys ++ unit_keys means k.before x.kind) one.0 in (
+      subst (HasKeys (keep_units means xs (keep_unit means x.kind k)).found)
+          (append_assoc keys (unit_keys means k.before x.kind) (units_keys means (keep_unit means x.kind k).before xs)
+          ∙ ap (λ n. keys ++ (unit_keys means k.before x.kind ++ units_keys means n xs)) one.1) more.0,
+      more.1 ∙ ap (λ n. n + count_theorems xs) one.1 ∙ add_assoc k.before (theorems_in x.kind) (count_theorems xs),
+    )
 
 kept-modules : (t : Table) (m : ℕ) (xs : List Module) (k : Kept) (keys : List ℕ) → HasKeys k.found keys
     → HasKeys (keep_modules t m xs k).found (keys ++ modules_keys t m k.before xs)
@@ -75,9 +76,9 @@ kept-modules t m (x ∷ xs) k keys h =
     let one = kept-units (symbol t m) x.units k keys h in
     let k' = keep_units (symbol t m) x.units k in
     subst (HasKeys (keep_modules t (suc m) xs k').found)
-        (append_assoc keys (units_keys (symbol t m) k.before x.units) (modules_keys t (suc m) k'.before xs)
-        ∙ ap (λ n. keys ++ (units_keys (symbol t m) k.before x.units ++ modules_keys t (suc m) n xs)) one.1)
-        (kept-modules t (suc m) xs k' (keys ++ units_keys (symbol t m) k.before x.units) one.0)
+    (append_assoc keys (units_keys (symbol t m) k.before x.units) (modules_keys t (suc m) k'.before xs)
+    ∙ ap (λ n. keys ++ (units_keys (symbol t m) k.before x.units ++ modules_keys t (suc m) n xs)) one.1)
+    (kept-modules t (suc m) xs k' (keys ++ units_keys (symbol t m) k.before x.units) one.0)
 
 pub all_kept : (t : Table) (ms : List Module) → HasKeys (keep_modules t 0 ms (record { found = []; before = 0 })).found (modules_keys t 0 0 ms)
 all_kept t ms = kept-modules t 0 ms (record { found = []; before = 0 }) [] (λ k. refl)

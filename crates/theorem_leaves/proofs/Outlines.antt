@@ -1,8 +1,7 @@
 -- A proof that is missing has no step names.
-use Rattle.std.proofs.Common.{◌≡◌, [], refl, ap, ◌∙◌}
+use Rattle.std.proofs.Common.{◌≡◌, [], ap}
 use Rattle.std.specs.Prelude.{Ok}
 use Rattle.tla_ast.specs.declared.unit.Proof.{Proof as source}
-use Rattle.tla_ast.specs.declared.unit.Proof.TheVariants as source
 use Rattle.plain_syntax.specs.Syntax.{proof_of as plain_proof}
 use Rattle.proof_outline.specs.Outline.{outline}
 use Rattle.theorem_leaves.proofs.Proofs.{is-missing}

@@ -1,14 +1,14 @@
 -- Passes over units and modules give the chapters that are defined.
-use Rattle.std.proofs.Common.{◌≡◌, ℕ, suc, ◌+◌, Bool, true, false, ◌||◌, if◌then◌else◌, List, [], ◌∷◌, ◌++◌, map, length, append_assoc, add_assoc, length-append, refl, sym, ap, subst, ◌∙◌, arith}
+use Rattle.std.proofs.Common.{◌≡◌, ℕ, suc, ◌+◌, Bool, List, [], ◌∷◌, ◌++◌, length, append_assoc, add_assoc, length-append, refl, sym, ap, ◌∙◌, arith}
 use Rattle.std.proofs.lemmas.List.{append-nil}
 use Rattle.obligation.specs.declared.obligation.Definition.{Definition}
 use Rattle.symbol_table.specs.declared.entry.Entry.{Entry}
 use Rattle.symbol_table.specs.Scoped.{Table, symbol}
 use Rattle.tla_ast.specs.declared.place.Place.{Place}
-use Rattle.plain_syntax.specs.Plain.{Text, Unit, UnitKind as u, Module}
+use Rattle.plain_syntax.specs.Plain.{Unit, UnitKind as u, Module}
 use Rattle.proof_contexts.specs.Theorems.{Known}
-use Rattle.usable_facts.specs.Definitions.{Means, definitions_of}
-use Rattle.usable_facts.specs.Theorems.{unit_adds, units_adds, reaches, brought, is_theorem_of}
+use Rattle.usable_facts.specs.Definitions.{Means}
+use Rattle.usable_facts.specs.Theorems.{unit_adds, units_adds, reaches, brought}
 use Rattle.theorem_leaves.specs.declared.chapter.TheoremLeaves.{TheoremLeaves}
 use Rattle.theorem_leaves.specs.declared.chapter.Chapter.{Chapter}
 use Rattle.theorem_leaves.specs.Citations.{theorems_in}

@@ -1,7 +1,6 @@
 -- Names of modules, what an extended name leads to, and what modules bring.
-use Rattle.std.proofs.Common.{◌≡◌, ℕ, suc, ◌+◌, ◌<◌, Bool, true, false, ◌||◌, if◌then◌else◌, List, [], ◌∷◌, ◌++◌, map, drop, length, slice_index_or, append_assoc, refl, sym, ap, subst, ◌∙◌, arith}
+use Rattle.std.proofs.Common.{◌≡◌, ℕ, ◌+◌, ◌<◌, Bool, true, false, ◌||◌, if◌then◌else◌, List, [], ◌∷◌, ◌++◌, map, drop, length, slice_index_or, append_assoc, refl, sym, ap, subst, ◌∙◌}
 use Rattle.std.specs.Prelude.{Option, Some, None}
-use Rattle.std.specs.Cmp.Lexicographic.{same_text}
 use Rattle.std.proofs.Math.Bool.{or_comm, or_assoc, or-false}
 use Rattle.std.proofs.lemmas.List.{append-nil}
 use Rattle.std_names.specs.Libraries.{is_library}
@@ -21,24 +20,13 @@ use Rattle.theorem_leaves.proofs.Runs.{next-one}
 
 -- ---- names
 
-or-true : (a : Bool) → (a || true) ≡ true
-or-true true = refl
-or-true false = refl
-
 pub reached-append : (vs ws : List Text) (w : Text) → is_reached (vs ++ ws) w ≡ (is_reached vs w || is_reached ws w)
 reached-append [] ws w = refl
 reached-append (v ∷ vs) ws w = ap (λ b. is_word v w || b) (reached-append vs ws w) ∙ sym (or_assoc (is_word v w) (is_reached vs w) (is_reached ws w))
 
--- a name that is put behind, or is there already
+-- a name that is put behind
 pub name-behind : (ws : List Text) (v : Text) → HasNames (ws ++ v ∷ []) (v ∷ ws)
 name-behind ws v w = reached-append ws (v ∷ []) w ∙ ap (λ b. is_reached ws w || b) (or-false (is_word v w)) ∙ or_comm (is_reached ws w) (is_word v w)
-
-pub name-there : (ws : List Text) (v : Text) → is_reached ws v ≡ true → HasNames ws (v ∷ ws)
-name-there ws v h w = by (is_word v w) refl
-  where
-    by : (b : Bool) → is_word v w ≡ b → is_reached ws w ≡ (b || is_reached ws w)
-    by true e = ap (is_reached ws) (sym (same_text v w (sym e))) ∙ h
-    by false e = refl
 
 -- one more of several names
 pub names-step : (old more now new : List Text) (i : ℕ) (v w : Text) → HasNames (now ++ drop i more) (old ++ more) → HasNames new (w ∷ now) → w ≡ v
@@ -50,9 +38,6 @@ names-step old more now new i v w all one same within is u =
     ∙ sym (reached-append now (v ∷ drop (i + 1) more) u)
     ∙ ap (λ l. is_reached (now ++ l) u) (sym (next-one more i v within is))
     ∙ all u
-
-pub names-end : (old more now : List Text) (i : ℕ) → HasNames (now ++ drop i more) (old ++ more) → drop i more ≡ [] → HasNames now (old ++ more)
-names-end old more now i all none = subst (λ l. HasNames l (old ++ more)) (ap (λ l. now ++ l) none ∙ append-nil now) all
 
 -- ---- modules that were read
 
@@ -67,17 +52,14 @@ found-done [] (e ∷ es) w h = absurd h
 found-done (d ∷ ds) [] w h = absurd h
 found-done (d ∷ ds) (e ∷ es) w h =
     subst (λ (c : Bool). Held (if is_word d.name w then Some d else found ds w) (c || is_done es w) (if c then e.reaches else reached_by es w)) (ap (λ n. is_word n w) h.0.name)
-        (by (is_word d.name w) (found-done ds es w h.1))
+    (by (is_word d.name w) (found-done ds es w h.1))
   where
     by : (b : Bool) → Held (found ds w) (is_done es w) (reached_by es w)
         → Held (if b then Some d else found ds w) (b || is_done es w) (if b then e.reaches else reached_by es w)
     by true k = (refl, h.0.reaches)
     by false k = k
 
--- what an extended name leads to: a library's name, one that was not read, and one that was
-pub led-library : (ws : List Text) (ds : List usable.Done) (w : Text) → is_library w ≡ true → HasNames ws (ws ++ led ds w)
-led-library ws ds w h = subst (HasNames ws) (sym (append-nil ws) ∙ ap (λ (b : Bool). ws ++ (if b then [] else (if is_done ds w then w ∷ reached_by ds w else []))) (sym h)) (λ u. refl)
-
+-- what an extended name leads to: a module that was not read, and one that was
 pub led-none : (ws : List Text) (done : List Done) (ds : List usable.Done) (w : Text) → AreDone done ds → found done w ≡ None → HasNames ws (ws ++ led ds w)
 led-none ws done ds w h e = subst (HasNames ws) (sym (append-nil ws) ∙ ap (λ l. ws ++ l) (nothing (is_library w))) (λ u. refl)
   where
@@ -121,12 +103,8 @@ reaches-step ds es now new i e w all one same within is u =
     ∙ ap (λ b. b || is_reached (reaches ds (drop (i + 1) es)) u) (one u ∙ ap (λ x. is_reached (now ++ led ds x) u) same)
     ∙ sym (reached-append (now ++ led ds e.0) (reaches ds (drop (i + 1) es)) u)
     ∙ ap (λ l. is_reached l u)
-        (append_assoc now (led ds e.0) (reaches ds (drop (i + 1) es)) ∙ ap (λ l. now ++ l) (sym (reaches-led ds e (drop (i + 1) es))) ∙ ap (λ l. now ++ reaches ds l) (sym (next-one es i e within is)))
+    (append_assoc now (led ds e.0) (reaches ds (drop (i + 1) es)) ∙ ap (λ l. now ++ l) (sym (reaches-led ds e (drop (i + 1) es))) ∙ ap (λ l. now ++ reaches ds l) (sym (next-one es i e within is)))
     ∙ all u
-
-pub reaches-end : (ds : List usable.Done) (es : List (Text × Place)) (now : List Text) (i : ℕ)
-    → HasNames (now ++ reaches ds (drop i es)) (reaches ds es) → drop i es ≡ [] → HasNames now (reaches ds es)
-reaches-end ds es now i all none = subst (λ l. HasNames l (reaches ds es)) (ap (λ l. now ++ reaches ds l) none ∙ append-nil now) all
 
 -- ---- what modules bring
 

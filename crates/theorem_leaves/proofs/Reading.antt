@@ -14,7 +14,6 @@ use Rattle.usable_facts.specs.Theorems as usable
 use Rattle.usable_facts.specs.Theorems.{unit_theorem, units_theorems, unit_adds, units_adds, reaches, brought, modules_theorems, joined, all_theorems, is_theorem_of, keys_of}
 use Rattle.written_steps.specs.Additions.{known_of}
 use Rattle.theorem_leaves.specs.declared.chapter.Chapter.{Chapter}
-use Rattle.theorem_leaves.specs.declared.chapter.TheoremLeaves.{TheoremLeaves}
 use Rattle.theorem_leaves.specs.declared.units.Reading.{Reading}
 use Rattle.theorem_leaves.specs.declared.modules.Done.{Done}
 use Rattle.theorem_leaves.specs.declared.modules.Modules.{Modules}
@@ -45,11 +44,11 @@ module _ (table : List Definition) (is_theorem : ℕ → Bool) (t : Table) where
   module-passed m x a old new r names d c reached at d-name d-reaches d-adds c-name c-theorems done before chapters passed = record {
     done = subst (λ l. AreDone l (a.done ++ last ∷ [])) (sym done)
         (more-done old.done.items a.done d last passed.done
-            (record {
-              name = d-name;
-              reaches = subst (λ l. HasNames l ws) (sym d-reaches) reached;
-              adds = ap (map known_of) d-adds ∙ at.adds ∙ adds-passed table is_theorem t.entries (symbol t m) x.units begun;
-            }));
+        (record {
+          name = d-name;
+          reaches = subst (λ l. HasNames l ws) (sym d-reaches) reached;
+          adds = ap (map known_of) d-adds ∙ at.adds ∙ adds-passed table is_theorem t.entries (symbol t m) x.units begun;
+        }));
     before =
         before ∙ at.before ∙ before-passed table is_theorem t.entries (symbol t m) x.units begun
         ∙ ap (λ l. a.before + length (units_reported table is_theorem t.entries (symbol t m) a.before l x.units)) (append-nil ks);
@@ -96,9 +95,10 @@ module _ (entries : List Entry) (means : Means) where
       let ts = unit_theorem entries means i known x.place x.kind in
       let one = unit-keys i known x.place x.kind in
       let later = units_theorems entries means (i + length ts) (known ++ unit_adds entries means x.kind) xs in
-      let more = units-keys xs (i + length ts) (known ++ unit_adds entries means x.kind) in
-      (keys-append ts later ∙ (λ j. one.0 j ++ more.0 j) ∙ ap (λ n. unit_keys means i x.kind ++ units_keys means (i + n) xs) one.1,
-       length-append ts later ∙ (λ j. one.1 j + more.1 j))
+      let more = units-keys xs (i + length ts) (known ++ unit_adds entries means x.kind) in (
+        keys-append ts later ∙ (λ j. one.0 j ++ more.0 j) ∙ ap (λ n. unit_keys means i x.kind ++ units_keys means (i + n) xs) one.1,
+        length-append ts later ∙ (λ j. one.1 j + more.1 j),
+      )
 
 modules-keys : (t : Table) (xs : List Module) (m i : ℕ) (ds : List usable.Done) → keys_of (joined (modules_theorems t m i ds xs)) ≡ modules_keys t m i xs
 modules-keys t [] m i ds = refl

@@ -1,5 +1,5 @@
 -- The theorems of all chapters are reports of all theorems, each in its place.
-use Rattle.std.proofs.Common.{◌≡◌, ℕ, suc, ◌+◌, Bool, List, [], ◌∷◌, ◌++◌, length, refl, sym, ap, subst, ◌∙◌}
+use Rattle.std.proofs.Common.{◌≡◌, ℕ, suc, ◌+◌, Bool, List, [], ◌∷◌, ◌++◌, length, refl, ap, subst}
 use Rattle.obligation.specs.declared.obligation.Definition.{Definition}
 use Rattle.symbol_table.specs.declared.entry.Entry.{Entry}
 use Rattle.symbol_table.specs.Scoped.{Table, symbol}
@@ -40,8 +40,8 @@ module _ (table : List Definition) (is_theorem : ℕ → Bool) where
         let one = unit-reports i known x.place x.kind in
         let more = known ++ unit_adds entries means x.kind in
         more-reports rs (units_reported table is_theorem entries means (i + length rs) more xs) ts (units_theorems entries means (i + length ts) more xs) one
-            (subst (λ n. AreReports table is_theorem (units_reported table is_theorem entries means (i + length rs) more xs) (units_theorems entries means (i + n) more xs)) (as-many rs ts one)
-                (units-reports xs (i + length rs) more))
+        (subst (λ n. AreReports table is_theorem (units_reported table is_theorem entries means (i + length rs) more xs) (units_theorems entries means (i + n) more xs)) (as-many rs ts one)
+        (units-reports xs (i + length rs) more))
 
   modules-reports : (t : Table) (xs : List Module) (m i : ℕ) (ds : List Done) → AreReports table is_theorem (reports_in (modules_reported table is_theorem t m i ds xs)) (joined (modules_theorems t m i ds xs))
   modules-reports t [] m i ds = tt
@@ -52,8 +52,8 @@ module _ (table : List Definition) (is_theorem : ℕ → Bool) where
       let one = units-reports t.entries (symbol t m) x.units i (brought ds ws) in
       let more : List Done = ds ++ record { name = x.name; reaches = ws; adds = units_adds t.entries (symbol t m) x.units } ∷ [] in
       more-reports rs (reports_in (modules_reported table is_theorem t (suc m) (i + length rs) more xs)) ts (joined (modules_theorems t (suc m) (i + length ts) more xs)) one
-          (subst (λ n. AreReports table is_theorem (reports_in (modules_reported table is_theorem t (suc m) (i + length rs) more xs)) (joined (modules_theorems t (suc m) (i + n) more xs))) (as-many rs ts one)
-              (modules-reports t xs (suc m) (i + length rs) more))
+      (subst (λ n. AreReports table is_theorem (reports_in (modules_reported table is_theorem t (suc m) (i + length rs) more xs)) (joined (modules_theorems t (suc m) (i + n) more xs))) (as-many rs ts one)
+      (modules-reports t xs (suc m) (i + length rs) more))
 
 pub chapters_report : ChaptersReport
 unfolding chapters_of

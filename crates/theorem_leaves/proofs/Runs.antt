@@ -1,5 +1,5 @@
 -- Lists that a loop goes over.
-use Rattle.std.proofs.Common.{◌≡◌, ℕ, zero, suc, ◌+◌, ◌<◌, ◌≤◌, List, [], ◌∷◌, drop, length, slice_index_or, refl, ap, arith}
+use Rattle.std.proofs.Common.{◌≡◌, ℕ, zero, suc, ◌+◌, ◌<◌, ◌≤◌, List, [], ◌∷◌, drop, length, slice_index_or, refl, arith}
 use Rattle.theorem_leaves.proofs.Walking.{rest-from}
 
 -- the rest of a list, where there is one more

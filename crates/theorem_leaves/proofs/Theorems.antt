@@ -1,38 +1,31 @@
 -- The context of a theorem's proof, what is told of a theorem, and what units do.
-use Rattle.std.proofs.Common.{◌≡◌, ℕ, suc, ◌+◌, Bool, List, [], ◌∷◌, ◌++◌, map, take, length, append_assoc, refl, sym, ap, subst, ◌∙◌, arith}
-use Rattle.std.specs.Prelude.{Option, Some, None}
+use Rattle.std.proofs.Common.{◌≡◌, ℕ, Bool, List, [], ◌∷◌, ◌++◌, take, length, append_assoc, refl, sym, ap, ◌∙◌}
+use Rattle.std.specs.Prelude.{Option, None}
 use Rattle.std.proofs.lemmas.List.{append-nil}
 use Rattle.tla_ast.specs.declared.place.Place.{Place}
 use Rattle.tla_ast.specs.declared.tree.Decl.{Decl}
-use Rattle.tla_ast.specs.declared.unit.UnitKind.{UnitKind}
-use Rattle.tla_ast.specs.declared.unit.UnitKind.TheVariants as source
 use Rattle.core_expr.specs.Tree.{Tree, in_}
 use Rattle.obligation.specs.declared.obligation.Definition.{Definition}
 use Rattle.symbol_table.specs.declared.entry.Entry.{Entry as declared}
 use Rattle.symbol_table.specs.Symbols.{symbol_at}
 use Rattle.plain_syntax.specs.Plain.{Statement, Proof, UnitKind as u}
-use Rattle.plain_syntax.specs.Syntax.{kind_of}
-use Rattle.proof_contexts.specs.declared.leaf.Leaf.{Leaf}
 use Rattle.proof_contexts.specs.Expansion.{name}
 use Rattle.proof_contexts.specs.Steps.{Item}
 use Rattle.proof_contexts.specs.Steps.Item.{New, NewIn, Given}
 use Rattle.proof_contexts.specs.Contexts.{Entry, Context, told, usable, add, with_goal, with_known, with_items}
 use Rattle.proof_contexts.specs.Leaves.{leaves}
-use Rattle.proof_contexts.specs.Theorems.{Known, Theorem, entry_of, before_it, start}
+use Rattle.proof_contexts.specs.Theorems.{Known, before_it}
 use Rattle.known_facts.specs.declared.item.Statement.{Statement as kept_statement}
-use Rattle.known_facts.specs.Shown.{items_of, statement_of, context_of}
+use Rattle.known_facts.specs.Shown.{items_of, statement_of}
 use Rattle.proof_outline.specs.Outline.{outline}
 use Rattle.usable_facts.specs.Keys.{theorem_key}
 use Rattle.usable_facts.specs.Proofs.{statement, proof_of}
 use Rattle.usable_facts.specs.Definitions.{Means}
 use Rattle.usable_facts.specs.Theorems.{number_of, cites_in, theorem_of, chosen_keys}
-use Rattle.written_steps.specs.declared.unit.Known.{Known as kept_known}
-use Rattle.written_steps.specs.Additions.{known_of}
 use Rattle.theorem_leaves.specs.declared.chapter.TheoremLeaves.{TheoremLeaves}
-use Rattle.theorem_leaves.specs.declared.units.Reading.{Reading}
-use Rattle.theorem_leaves.specs.Citations.{keys_in, theorems_in}
-use Rattle.theorem_leaves.specs.Chapters.{name_of, reported, unit_reported}
-use Rattle.theorem_leaves.specs.Passing.{At, IsAt, IsBase, report_unit}
+use Rattle.theorem_leaves.specs.Citations.{keys_in}
+use Rattle.theorem_leaves.specs.Chapters.{name_of, reported}
+use Rattle.theorem_leaves.specs.Passing.{IsBase}
 use Rattle.theorem_leaves.proofs.Cited.{proof-cites}
 
 -- ---- contexts
@@ -103,4 +96,4 @@ module _ (table : List Definition) (is_theorem : ℕ → Bool) (entries : List d
           found ∙ ap (λ o. leaves table (proof_of means (symbol_at o) entries p 0 own) (with_goal (with_items None (items_of st.items) c) st.goal)) names
           ∙ ap (λ t. leaves table (proof_of means (symbol_at (cites_in (outline own))) entries p 0 own) (with_goal (with_items None t.items c) t.goal)) same
           ∙ ap (leaves table (proof_of means (symbol_at (cites_in (outline own))) entries p 0 own))
-              (same-start None (statement means entries s).items c (before_it (theorem_of entries means i ks p w s own)) (statement means entries s).goal base.0 base.1)
+          (same-start None (statement means entries s).items c (before_it (theorem_of entries means i ks p w s own)) (statement means entries s).goal base.0 base.1)

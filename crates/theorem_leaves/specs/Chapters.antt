@@ -1,5 +1,5 @@
 -- The modules with their theorems, each theorem with the leaves of its proof.
-use Rattle.std.specs.Prelude.{◌≡◌, ℕ, suc, ◌+◌, Bool, List, [], ◌∷◌, ◌++◌, length, Option, Some, None, option_map}
+use Rattle.std.specs.Prelude.{◌≡◌, ℕ, suc, ◌+◌, Bool, List, [], ◌∷◌, ◌++◌, length, Option, option_map}
 use Rattle.tla_ast.specs.declared.place.Place.{Place}
 use Rattle.tla_ast.specs.declared.tree.Decl.{Decl}
 use Rattle.obligation.specs.declared.obligation.Definition.{Definition}
@@ -9,7 +9,7 @@ use Rattle.plain_syntax.specs.Plain.{Text, Unit, UnitKind as u, Module}
 use Rattle.proof_contexts.specs.Statuses.{cites}
 use Rattle.proof_contexts.specs.Theorems.{Known, Theorem, theorem_leaves}
 use Rattle.usable_facts.specs.Definitions.{Means, definitions_of}
-use Rattle.usable_facts.specs.Theorems.{theorem_of, unit_adds, units_adds, Done, reaches, brought, chosen_keys, is_theorem_of, all_theorems}
+use Rattle.usable_facts.specs.Theorems.{theorem_of, unit_adds, units_adds, Done, reaches, brought, chosen_keys, is_theorem_of}
 use Rattle.theorem_leaves.specs.declared.chapter.TheoremLeaves.{TheoremLeaves}
 use Rattle.theorem_leaves.specs.declared.chapter.Chapter.{Chapter}
 

@@ -2,7 +2,7 @@
 use Rattle.std.specs.Prelude.{◌≡◌, ℕ, suc, ◌+◌, Bool, true, false, if◌then◌else◌, List, [], ◌∷◌, ◌++◌, Option}
 use Rattle.tla_ast.specs.declared.place.Place.{Place}
 use Rattle.tla_ast.specs.declared.unit.Step.{Step as source_step, out-Step}
-use Rattle.plain_syntax.specs.Plain.{Proof, Steps, Fact, Move as move, Unit, UnitKind as u, Module}
+use Rattle.plain_syntax.specs.Plain.{Proof, Steps, Move as move, Unit, UnitKind as u, Module}
 use Rattle.plain_syntax.specs.Plain.Proof.{missing, obvious, omitted, by_facts, steps}
 use Rattle.plain_syntax.specs.Plain.Steps.{end_steps, step}
 use Rattle.plain_syntax.specs.Syntax.{move_of}
@@ -13,7 +13,7 @@ use Rattle.proof_contexts.specs.Expansion.{has_number}
 use Rattle.usable_facts.specs.Keys.{theorem_key}
 use Rattle.usable_facts.specs.Proofs.{hidden}
 use Rattle.usable_facts.specs.Definitions.{Means}
-use Rattle.usable_facts.specs.Theorems.{number_of, chosen_keys}
+use Rattle.usable_facts.specs.Theorems.{number_of}
 
 -- ---- citations
 

@@ -1,6 +1,5 @@
 -- What the functions that look for citations do: old are the keys before, new those after.
 use Rattle.std.specs.Prelude.{◌≡◌, ℕ, Bool, not, List, ◌++◌, map}
-use Rattle.tla_ast.specs.declared.place.Place.{Place}
 use Rattle.tla_ast.specs.declared.unit.Fact.{Fact as source_fact}
 use Rattle.tla_ast.specs.declared.unit.Step.{Step as source_step, out-Step}
 use Rattle.tla_ast.specs.declared.unit.Proof.{Proof as source}
@@ -26,7 +25,7 @@ module _ (w : Citations) where
   CitesStep x =
       let y = out-Step x in
       Adds (step_keys (means w.home) (symbol_at w.outline.now) (entries w.home) (move_of y.kind)
-          (keys_in (means w.home) (symbol_at w.outline.now) (entries w.home) (plain_proof y.proof)))
+      (keys_in (means w.home) (symbol_at w.outline.now) (entries w.home) (plain_proof y.proof)))
 
   abbrev pub CitesAll : List source_step → List ℕ → List ℕ → Type 0
   CitesAll xs = Adds (keys_in_all (means w.home) (symbol_at w.outline.now) (entries w.home) xs)

@@ -1,5 +1,5 @@
 -- What the functions that read modules do.
-use Rattle.std.specs.Prelude.{◌≡◌, ℕ, Bool, true, false, List, [], ◌∷◌, ◌++◌, map, if◌then◌else◌, Option, Some, None, fold}
+use Rattle.std.specs.Prelude.{◌≡◌, ℕ, List, [], ◌∷◌, ◌++◌, map, if◌then◌else◌, Option, Some, None, fold}
 use Rattle.std_names.specs.Libraries.{is_library}
 use Rattle.tla_ast.specs.declared.unit.Module.{Module as source_module}
 use Rattle.plain_syntax.specs.Plain.{Text}

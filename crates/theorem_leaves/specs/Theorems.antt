@@ -1,13 +1,11 @@
 -- What the functions that read theorems and units do.
-use Rattle.std.specs.Prelude.{◌≡◌, ℕ, Bool, List, [], ◌++◌, map, Option, None, Result, Ok}
+use Rattle.std.specs.Prelude.{◌≡◌, ℕ, Bool, List, map, None}
 use Rattle.tla_ast.specs.declared.place.Place.{Place}
-use Rattle.tla_ast.specs.declared.fault.Fault.{Fault}
 use Rattle.tla_ast.specs.declared.unit.Proof.{Proof as source}
 use Rattle.tla_ast.specs.declared.unit.Unit.{Unit as source_unit}
 use Rattle.obligation.specs.declared.obligation.Definition.{Definition}
 use Rattle.symbol_table.specs.declared.entry.Entry.{Entry}
 use Rattle.symbol_table.specs.Symbols.{symbol_at}
-use Rattle.plain_syntax.specs.Plain.{Proof as plain}
 use Rattle.plain_syntax.specs.Syntax.{statement_of, unit_of}
 use Rattle.plain_syntax.specs.Syntax.{proof_of as plain_proof}
 use Rattle.proof_contexts.specs.declared.leaf.Leaf.{Leaf}
@@ -18,7 +16,6 @@ use Rattle.proof_contexts.specs.Theorems.{Known}
 use Rattle.known_facts.specs.declared.item.Statement.{Statement}
 use Rattle.known_facts.specs.Shown.{items_of}
 use Rattle.known_facts.specs.Clean.{definitions_of}
-use Rattle.proof_outline.specs.Outline.{outline}
 use Rattle.usable_facts.specs.Proofs.{proof_of}
 use Rattle.usable_facts.specs.Definitions.{Means}
 use Rattle.usable_facts.specs.Theorems.{theorem_of}
@@ -28,10 +25,6 @@ use Rattle.theorem_leaves.specs.declared.units.Setting.{Setting}
 use Rattle.theorem_leaves.specs.declared.units.Written.{Written}
 use Rattle.theorem_leaves.specs.Chapters.{reported}
 use Rattle.theorem_leaves.specs.Passing.{At, report_unit, tell_unit, pass_units}
-
--- a proof that is missing cites no step
-abbrev pub NoneCited : Type 0
-NoneCited = outline plain.missing ≡ Ok []
 
 module _ (s : Setting) where
   abbrev pub table : List Definition
@@ -55,7 +48,7 @@ module _ (s : Setting) where
   abbrev pub IsReported : ℕ → List Known → Written → TheoremLeaves → Type 0
   IsReported i ks w r =
       r ≡ reported table is_theorem w.name.now w.place
-          (theorem_of entries means i ks w.place w.name.now (statement_of w.statement.now) (plain_proof w.proof.now))
+      (theorem_of entries means i ks w.place w.name.now (statement_of w.statement.now) (plain_proof w.proof.now))
 
   abbrev pub reported_unit : source_unit → At → At
   reported_unit x = report_unit table is_theorem entries means (unit_of x).place (unit_of x).kind

@@ -2,11 +2,11 @@
 
 ghost use Rattle.std.specs.Prelude.{◌≡◌, ◌∷◌, ◌++◌, map, List, IfOk, OnOk};
 ghost use Rattle.std.specs.Option.{option_copied};
+ghost use Rattle.plain_syntax.specs.Plain.{Text as word};
 ghost use Rattle.plain_syntax.specs.Syntax.{module_of};
-ghost use Rattle.prime_expand.specs.Symbols.{is_word};
 ghost use Rattle.known_facts.specs.Shown.{context_of};
 ghost use Rattle.known_facts.specs.Clean.{HasSuspects};
-ghost use Rattle.usable_facts.specs.Theorems.{Done as before, is_reached, reached_by, is_done, reaches, brought};
+ghost use Rattle.usable_facts.specs.Theorems.{Done as before, is_reached, reaches, brought};
 ghost use Rattle.theorem_leaves.specs.Chapters.{chapters_of};
 ghost use Rattle.theorem_leaves.specs.Passing.{AreDone, HasNames, IsBase, IsPassed, Passed};
 ghost use Rattle.theorem_leaves.specs.Modules as spec;
@@ -86,13 +86,9 @@ fn find<'a>(done: &'a [Done], name: &[u8]) -> Option<&'a Done>
 }
 
 /// What an extended name leads to.
-fn extend(
-    alloc: Global,
-    done: &[Done],
-    names: &mut Items<Text>,
-    name: &[u8],
-) -> Result<(), Memory>
-    ensures { OnOk result ((ds : List before) → AreDone done.now ds → HasNames names.new (names.old ++ spec.led ds name.now)) }
+fn extend(alloc: Global, done: &[Done], names: &mut Items<Text>, name: &[u8]) -> Result<(), Memory>
+    ensures { OnOk result ((ds : List before) → AreDone done.now ds
+        → HasNames names.new (names.old ++ spec.led ds name.now)) }
 {
     if is_library(name) {
         return Ok(());
@@ -105,12 +101,9 @@ fn extend(
 }
 
 /// The names of all modules that EXTENDS leads to.
-fn reaches(
-    alloc: Global,
-    done: &[Done],
-    extends: &[(Text, Place)],
-) -> Result<Items<Text>, Memory>
-    ensures { IfOk result (λ names. (ds : List before) → AreDone done.now ds → HasNames names (reaches ds extends.now)) }
+fn reaches(alloc: Global, done: &[Done], extends: &[(Text, Place)]) -> Result<Items<Text>, Memory>
+    ensures { IfOk result (λ names. (ds : List before) → AreDone done.now ds
+        → HasNames names (reaches ds extends.now)) }
 {
     let mut names = Items::new(alloc);
     for (name, _) in extends {
@@ -131,7 +124,8 @@ fn tell_all(alloc: Global, context: &mut Context, facts: &[Known]) -> Result<(),
 
 /// The context of what the modules with these names add.
 fn bring(alloc: Global, done: &[Done], names: &[Text]) -> Result<Context, Memory>
-    ensures { IfOk result (λ c. (ds : List before) (ws : List _) → AreDone done.now ds → HasNames names.now ws → IsBase (brought ds ws) (context_of c)) }
+    ensures { IfOk result (λ c. (ds : List before) (ws : List word) → AreDone done.now ds
+        → HasNames names.now ws → IsBase (brought ds ws) (context_of c)) }
 {
     let mut context = Context::new(alloc, Expr::leaf(alloc, Head::True)?);
     for entry in done {
@@ -198,7 +192,8 @@ impl Whole<'_> {
     /// Modules, of which the first has the number 0.
     fn modules(&self, modules: &[Module]) -> Result<Items<Chapter>, Memory>
         requires { HasSuspects self.now.table.now }
-        ensures { IfOk result (λ cs. cs ≡ (spec.passed_modules self.now 0 modules.now spec.nothing).chapters) }
+        ensures { IfOk result (λ cs. cs
+            ≡ (spec.passed_modules self.now 0 modules.now spec.nothing).chapters) }
     {
         let mut passed = Modules {
             done: Vec::new(self.alloc),

@@ -1,9 +1,7 @@
 //! The theorems of units.
 
 ghost use Rattle.std.specs.Prelude.{◌≡◌, [], List, IfOk, OnOk};
-ghost use Rattle.proof_contexts.specs.Expansion.{has_number};
 ghost use Rattle.proof_contexts.specs.Theorems.{Known as known};
-ghost use Rattle.plain_syntax.specs.Syntax.{kind_of, unit_of, statement_of};
 ghost use Rattle.plain_syntax.specs.Syntax.{proof_of as plain_proof};
 ghost use Rattle.known_facts.specs.Shown.{context_of};
 ghost use Rattle.known_facts.specs.Clean.{HasSuspects};

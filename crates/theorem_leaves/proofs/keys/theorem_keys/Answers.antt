@@ -1,4 +1,4 @@
-use Rattle.std.proofs.Common.{[], map, sym, ap, subst, ◌∙◌}
+use Rattle.std.proofs.Common.{map, sym, ap, subst, ◌∙◌}
 use Rattle.plain_syntax.specs.Syntax.{module_of}
 use Rattle.theorem_leaves.specs.Citations.{HasKeys, modules_keys}
 use Rattle.theorem_leaves.specs.Keeping.{Kept, kept_of, keep_modules}

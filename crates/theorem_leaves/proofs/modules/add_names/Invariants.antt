@@ -1,4 +1,4 @@
-use Rattle.std.proofs.Common.{◌≡◌, ◌++◌, drop}
+use Rattle.std.proofs.Common.{◌++◌, drop}
 use Rattle.theorem_leaves.specs.Passing.{HasNames}
 use Rattle.theorem_leaves.proofs.modules.add_names.Given as goal
 

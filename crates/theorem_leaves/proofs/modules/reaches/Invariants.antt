@@ -1,4 +1,4 @@
-use Rattle.std.proofs.Common.{◌≡◌, ◌++◌, List, drop}
+use Rattle.std.proofs.Common.{◌++◌, List, drop}
 use Rattle.usable_facts.specs.Theorems.{Done, reaches}
 use Rattle.theorem_leaves.specs.Passing.{AreDone, HasNames}
 use Rattle.theorem_leaves.proofs.modules.reaches.Given as goal

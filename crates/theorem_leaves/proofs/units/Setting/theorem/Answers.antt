@@ -1,4 +1,4 @@
-use Rattle.std.proofs.Common.{◌≡◌, ◌++◌, refl, ap, ◌∙◌}
+use Rattle.std.proofs.Common.{◌≡◌, ◌++◌, refl, ap}
 use Rattle.symbol_table.specs.Symbols.{symbol_at}
 use Rattle.plain_syntax.specs.Syntax.{statement_of}
 use Rattle.plain_syntax.specs.Syntax.{proof_of as plain_proof}
@@ -16,5 +16,5 @@ returns-clause-reported c = λ ks base.
     let none : c.new-cited.result ++ keys ≡ keys = ap (λ l. l ++ keys) c.new-cited.ensures in
     let cited : c.cited.inside.items.items ≡ keys = cc (c.cited.view_is, c.in_ok-proof.ensures) in
     reported-is (table s) (is_theorem s) (entries s) (means s) c.args.before ks t.name.now t.place (statement_of t.statement.now) (plain_proof t.proof.now)
-        _ names c.in_ok-statement.statement (context_of c.args.context.now) base c.in_ok-names.ensures c.in_ok-statement.ensures
-        c.in_ok-theorem_key.ensures c.in_ok-name_of.ensures refl cited c.in_ok-leaves.ensures.leaves
+    _ names c.in_ok-statement.statement (context_of c.args.context.now) base c.in_ok-names.ensures c.in_ok-statement.ensures
+    c.in_ok-theorem_key.ensures c.in_ok-name_of.ensures refl cited c.in_ok-leaves.ensures.leaves

@@ -1,4 +1,4 @@
-use Rattle.std.proofs.Common.{◌≡◌, map, drop}
+use Rattle.std.proofs.Common.{◌≡◌, drop}
 use Rattle.theorem_leaves.specs.Passing.{At, IsAt}
 use Rattle.theorem_leaves.specs.Theorems.{passed_units}
 use Rattle.theorem_leaves.proofs.units.Setting.units.Given as goal
