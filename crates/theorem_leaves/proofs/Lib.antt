@@ -1,3 +1,9 @@
+mod Walks
+mod KeyLaws
+mod Statements
+mod Facts
+mod Moves
+mod Defined
 pub mod Walking
 pub mod Stepping
 pub mod Runs

@@ -9,8 +9,8 @@ use Rattle.plain_syntax.specs.Plain.{Text}
 use Rattle.prime_expand.specs.Symbols.{is_word}
 use Rattle.proof_contexts.specs.Contexts.{Context, Entry, add}
 use Rattle.proof_contexts.specs.Theorems.{entry_of}
-use Rattle.written_steps.specs.declared.unit.Known.{Known}
-use Rattle.written_steps.specs.Additions.{known_of}
+use Rattle.theorem_leaves.specs.declared.unit.Known.{Known}
+use Rattle.theorem_leaves.specs.Additions.{known_of}
 use Rattle.usable_facts.specs.Theorems as usable
 use Rattle.usable_facts.specs.Theorems.{is_done, reached_by, reaches, is_reached, brought}
 use Rattle.theorem_leaves.specs.declared.modules.Done.{Done}

@@ -15,9 +15,9 @@ use Rattle.proof_leaves.specs.declared.step.Move.{Move}
 use Rattle.proof_leaves.specs.declared.step.Claim.{Claim}
 use Rattle.proof_leaves.specs.Shown.{step_of, claim_of}
 use Rattle.usable_facts.specs.Proofs.{acts}
-use Rattle.written_steps.specs.declared.step.Written.{Written}
-use Rattle.written_steps.specs.declared.step.Written.TheVariants.{Claimed, Moves}
-use Rattle.written_steps.specs.Acts.{acts_of, is_qed, ends}
+use Rattle.theorem_leaves.specs.declared.step.Written.{Written}
+use Rattle.theorem_leaves.specs.declared.step.Written.TheVariants.{Claimed, Moves}
+use Rattle.theorem_leaves.specs.Acts.{acts_of, is_qed, ends}
 use Rattle.theorem_leaves.specs.declared.walk.Walker.{Walker}
 use Rattle.theorem_leaves.specs.declared.walk.Stand.{Stand}
 use Rattle.theorem_leaves.proofs.Walking.{rest-from}

@@ -9,7 +9,7 @@ use Rattle.plain_syntax.specs.Syntax.{proof_of as plain_proof}
 use Rattle.proof_contexts.specs.Expansion.{has_number}
 use Rattle.usable_facts.specs.Proofs.{hidden}
 use Rattle.usable_facts.specs.Theorems.{chosen_keys}
-use Rattle.written_steps.specs.Homes.{means, entries}
+use Rattle.theorem_leaves.specs.Homes.{means, entries}
 use Rattle.theorem_leaves.specs.declared.citations.Citations.{Citations}
 use Rattle.theorem_leaves.specs.Citations.{is_qed, step_keys, keys_in, keys_in_all}
 

@@ -1,3 +1,8 @@
+pub mod Homes
+pub mod Moves
+pub mod Acts
+pub mod Additions
+pub mod Definitions
 pub mod Visits
 pub mod Walks
 pub mod Citations

@@ -11,8 +11,8 @@ use Rattle.known_facts.specs.Clean.{definitions_of}
 use Rattle.usable_facts.specs.Theorems as usable
 use Rattle.usable_facts.specs.Theorems.{is_done, reached_by}
 use Rattle.prime_expand.specs.Symbols.{is_word}
-use Rattle.written_steps.specs.declared.unit.Known.{Known}
-use Rattle.written_steps.specs.Additions.{known_of}
+use Rattle.theorem_leaves.specs.declared.unit.Known.{Known}
+use Rattle.theorem_leaves.specs.Additions.{known_of}
 use Rattle.theorem_leaves.specs.declared.modules.Done.{Done}
 use Rattle.theorem_leaves.specs.declared.modules.Whole.{Whole}
 use Rattle.theorem_leaves.specs.Passing.{Passed, pass_module, pass_modules}

@@ -11,7 +11,7 @@ use Rattle.known_facts.specs.Shown.{context_of}
 use Rattle.usable_facts.specs.Definitions.{Means}
 use Rattle.usable_facts.specs.Theorems as usable
 use Rattle.usable_facts.specs.Theorems.{unit_adds, units_adds, reaches, brought, is_reached}
-use Rattle.written_steps.specs.Additions.{known_of}
+use Rattle.theorem_leaves.specs.Additions.{known_of}
 use Rattle.theorem_leaves.specs.declared.chapter.TheoremLeaves.{TheoremLeaves}
 use Rattle.theorem_leaves.specs.declared.chapter.Chapter.{Chapter}
 use Rattle.theorem_leaves.specs.declared.units.Reading.{Reading}

@@ -19,7 +19,7 @@ use Rattle.known_facts.specs.Clean.{definitions_of}
 use Rattle.usable_facts.specs.Proofs.{proof_of}
 use Rattle.usable_facts.specs.Definitions.{Means}
 use Rattle.usable_facts.specs.Theorems.{theorem_of}
-use Rattle.written_steps.specs.Homes as homes
+use Rattle.theorem_leaves.specs.Homes as homes
 use Rattle.theorem_leaves.specs.declared.chapter.TheoremLeaves.{TheoremLeaves}
 use Rattle.theorem_leaves.specs.declared.units.Setting.{Setting}
 use Rattle.theorem_leaves.specs.declared.units.Written.{Written}

@@ -21,7 +21,7 @@ use Rattle.proof_leaves.specs.declared.step.Claim.{Claim}
 use Rattle.proof_leaves.specs.Shown.{step_of, claim_of}
 use Rattle.usable_facts.specs.Keys.{label_key}
 use Rattle.usable_facts.specs.Proofs.{count, proof_of}
-use Rattle.written_steps.specs.Homes as homes
+use Rattle.theorem_leaves.specs.Homes as homes
 use Rattle.theorem_leaves.specs.declared.walk.Walker.{Walker}
 use Rattle.theorem_leaves.specs.declared.walk.Stand.{Stand}
 use Rattle.theorem_leaves.specs.Visits.{State, state_of, act_all, visit, visit_all, finished}

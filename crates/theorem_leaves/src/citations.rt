@@ -4,13 +4,12 @@ ghost use Rattle.std.specs.Prelude.{◌≡◌, OnOk, IfOk};
 ghost use Rattle.proof_contexts.specs.Expansion.{has_number};
 ghost use Rattle.theorem_leaves.specs.Citing.{Cites, CitesAll, CitesFacts, CitesStep, goes_on};
 
+use crate::home::Home;
 use core_expr::Memory;
 use indexmap::IndexSet;
 use proof_outline::Outline;
 use sqlite_items::Items;
 use tla_ast::{Fact, Proof, Step, StepKind};
-use written_steps::Home;
-
 /// Where citations are looked for: the theorem's module, what its step names mean, and the keys of all theorems.
 #[derive(Clone, Copy)]
 pub struct Citations<'a> {

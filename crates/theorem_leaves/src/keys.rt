@@ -2,17 +2,16 @@
 
 ghost use Rattle.std.specs.Prelude.{◌≡◌, map, IfOk, OnOk};
 ghost use Rattle.plain_syntax.specs.Syntax.{kind_of, unit_of, module_of};
-ghost use Rattle.written_steps.specs.Homes.{means};
+ghost use Rattle.theorem_leaves.specs.Homes.{means};
 ghost use Rattle.theorem_leaves.specs.Citations.{HasKeys, modules_keys};
 ghost use Rattle.theorem_leaves.specs.Keeping.{kept_of, keep_unit, keep_units};
 
+use crate::home::Home;
 use core_expr::Memory;
 use indexmap::IndexSet;
 use std::alloc::Global;
 use symbol_table::Scoped;
 use tla_ast::{Module, Unit, UnitKind};
-use written_steps::Home;
-
 /// The keys of the theorems so far, and how many theorems these are.
 #[derive(Drop)]
 struct Keys {

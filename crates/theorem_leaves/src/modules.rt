@@ -11,6 +11,9 @@ ghost use Rattle.theorem_leaves.specs.Chapters.{chapters_of};
 ghost use Rattle.theorem_leaves.specs.Passing.{AreDone, HasNames, IsBase, IsPassed, Passed};
 ghost use Rattle.theorem_leaves.specs.Modules as spec;
 
+use crate::definition::definitions;
+use crate::home::Home;
+use crate::unit::Known;
 use crate::chapter::Chapter;
 use crate::keys::theorem_keys;
 use crate::units::{Reading, Setting};
@@ -22,8 +25,6 @@ use std::alloc::Global;
 use std_names::is_library;
 use symbol_table::Scoped;
 use tla_ast::{Module, Place};
-use written_steps::{Home, Known, definitions};
-
 /// What is kept of a module that was read: its name, those of all modules that it extends, directly or through others, and what its
 /// units add to what is known.
 #[derive(Drop)]

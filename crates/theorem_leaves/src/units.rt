@@ -11,6 +11,8 @@ ghost use Rattle.theorem_leaves.specs.Chapters.{name_of};
 ghost use Rattle.theorem_leaves.specs.Passing.{At, IsAt, IsBase};
 ghost use Rattle.theorem_leaves.specs.Theorems.{LeavesOf, IsReported, reported_unit, told_unit, passed_units};
 
+use crate::home::Home;
+use crate::unit::Known;
 use crate::chapter::TheoremLeaves;
 use crate::citations::Citations;
 use crate::walk::Walker;
@@ -22,8 +24,6 @@ use proof_outline::{Outline, outline};
 use sqlite_items::Items;
 use std::alloc::Global;
 use tla_ast::{Decl, OutlineFault, Place, Proof, Statement as Source, Unit, UnitKind};
-use written_steps::{Home, Known};
-
 /// Where the units of a module stand: the module, the definitions of all modules, and the keys of all theorems.
 #[derive(Clone, Copy)]
 pub struct Setting<'a> {

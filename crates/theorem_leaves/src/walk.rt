@@ -6,6 +6,9 @@ ghost use Rattle.known_facts.specs.Clean.{HasSuspects};
 ghost use Rattle.known_facts.specs.Grown.{Grown};
 ghost use Rattle.theorem_leaves.specs.Walks.{stand_of, AnswersBy, MakesAll, Claims, Visits, VisitsAll, Answers};
 
+use crate::home::Home;
+use crate::key::label_key;
+use crate::step::Written;
 use crate::number::number_after;
 use core_expr::Memory;
 use known_facts::{Context, Table};
@@ -14,8 +17,6 @@ use proof_leaves::{Claim, Move, by_facts, conclude, enter, leave, make, missing,
 use proof_outline::Outline;
 use sqlite_items::Items;
 use tla_ast::{Decl, Fact, Place, Proof, Step};
-use written_steps::{Home, Written, label_key};
-
 /// Where the proof of a theorem stands: its module, the definitions of all modules, and what its step names mean.
 #[derive(Clone, Copy)]
 pub struct Walker<'a> {

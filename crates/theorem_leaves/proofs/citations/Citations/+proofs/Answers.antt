@@ -5,7 +5,7 @@ use Rattle.plain_syntax.specs.Syntax.{fact_of}
 use Rattle.proof_contexts.specs.Expansion.{has_number}
 use Rattle.usable_facts.specs.Proofs.{hidden}
 use Rattle.usable_facts.specs.Theorems.{chosen_keys}
-use Rattle.written_steps.specs.Homes.{means, entries}
+use Rattle.theorem_leaves.specs.Homes.{means, entries}
 use Rattle.theorem_leaves.specs.Citations.{keys_in_all}
 use Rattle.theorem_leaves.specs.Citing.{Adds}
 use Rattle.theorem_leaves.proofs.Citing.{keys-by, keys-steps, keys-none, steps-more}

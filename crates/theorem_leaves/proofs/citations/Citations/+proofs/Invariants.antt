@@ -2,7 +2,7 @@ use Rattle.std.proofs.Common.{◌≡◌, ◌++◌, drop}
 use Rattle.symbol_table.specs.Symbols.{symbol_at}
 use Rattle.proof_contexts.specs.Expansion.{has_number}
 use Rattle.usable_facts.specs.Theorems.{chosen_keys}
-use Rattle.written_steps.specs.Homes.{means, entries}
+use Rattle.theorem_leaves.specs.Homes.{means, entries}
 use Rattle.theorem_leaves.specs.Citations.{keys_in_all}
 use Rattle.theorem_leaves.proofs.citations.Citations.+proofs.Given as goal
 

@@ -1,6 +1,6 @@
 use Rattle.std.proofs.Common.{◌≡◌, map, drop}
 use Rattle.plain_syntax.specs.Syntax.{unit_of}
-use Rattle.written_steps.specs.Homes.{means}
+use Rattle.theorem_leaves.specs.Homes.{means}
 use Rattle.theorem_leaves.specs.Keeping.{kept_of, keep_units}
 use Rattle.theorem_leaves.proofs.keys.Keys.units.Given as goal
 

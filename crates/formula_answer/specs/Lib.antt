@@ -1,4 +1,0 @@
-pub mod Canonical
-pub mod Answer
-pub mod Nodes
-pub mod Laws

@@ -1,6 +1,0 @@
-mod Walks
-mod Keys
-mod Statements
-mod Facts
-mod Moves
-mod Defined

@@ -1,6 +1,0 @@
-use Rattle.std.proofs.Common.{◌≡◌, ◌++◌, drop}
-use Rattle.written_steps.specs.Moves as moves
-use Rattle.written_steps.proofs.home.Home.choices.Given as goal
-
-abbrev pub invariant-loop-group : goal.invariant-loop-group
-invariant-loop-group l = l.found ++ moves.choices l.self (drop l.group-index l.groups) ≡ moves.choices l.self l.groups

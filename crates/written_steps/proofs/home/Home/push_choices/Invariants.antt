@@ -1,6 +1,0 @@
-use Rattle.std.proofs.Common.{◌≡◌, ◌++◌, map, drop}
-use Rattle.written_steps.specs.Moves.{choice}
-use Rattle.written_steps.proofs.home.Home.push_choices.Given as goal
-
-abbrev pub invariant-loop-name : goal.invariant-loop-name
-invariant-loop-name l = l.found ++ map (choice l.self l.set) (drop l.name-index l.names) ≡ l.fn.found ++ map (choice l.self l.set) l.names

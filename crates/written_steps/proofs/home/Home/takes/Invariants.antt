@@ -1,6 +1,0 @@
-use Rattle.std.proofs.Common.{◌≡◌, ◌++◌, drop}
-use Rattle.written_steps.specs.Moves as moves
-use Rattle.written_steps.proofs.home.Home.takes.Given as goal
-
-abbrev pub invariant-loop-group : goal.invariant-loop-group
-invariant-loop-group l = l.found ++ moves.takes l.self (drop l.group-index l.groups) ≡ moves.takes l.self l.groups
