@@ -2,6 +2,7 @@
 use Rattle.std.proofs.Common.{◌≡◌, ℕ, suc, ◌+◌, Bool, true, false, ◌||◌, if◌then◌else◌, List, [], ◌∷◌, ◌++◌, append_assoc, add_assoc, refl, sym, ap, subst, ◌∙◌, arith}
 use Rattle.std.specs.Prelude.{nat_eq}
 use Rattle.std.specs.List.{list_any}
+use Rattle.std.proofs.Math.Bool.{or-false}
 use Rattle.std.proofs.lemmas.List.{append-nil}
 use Rattle.indexmap.specs.IndexSet.{insert_key}
 use Rattle.plain_syntax.specs.Plain.{Unit, UnitKind as u, Module}
@@ -25,16 +26,12 @@ has-append : (xs ys : List ℕ) (k : ℕ) → has_number (xs ++ ys) k ≡ (has_n
 has-append [] ys k = refl
 has-append (x ∷ xs) ys k = grind (arith, has-append xs ys k)
 
-or-nothing : (b : Bool) → (b || false) ≡ b
-or-nothing true = refl
-or-nothing false = refl
-
 -- a key that is there already adds nothing
 known-key : (ns : List ℕ) (n k : ℕ) → list_any (nat_eq n) ns ≡ true → has_number ns k ≡ (has_number ns k || (nat_eq n k || false))
 known-key ns n k h = by (nat_eq n k) refl
   where
     by : (b : Bool) → nat_eq n k ≡ b → has_number ns k ≡ (has_number ns k || (b || false))
-    by false e = sym (or-nothing (has_number ns k))
+    by false e = sym (or-false (has_number ns k))
     by true e = let here : has_number ns k ≡ true = ap (has_number ns) (sym (eq-true n k e)) ∙ sym (among_is ns n) ∙ h in here ∙ sym (ap (λ b. b || true) here)
 
 inserted : (ns : List ℕ) (n k : ℕ) → has_number (insert_key nat_eq ns n) k ≡ (has_number ns k || (nat_eq n k || false))
