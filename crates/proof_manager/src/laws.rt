@@ -8,10 +8,10 @@ use sequent_answer::{
     canonical_forms, few_connectives_are_decided, proved_holds, saturated_falsifies,
 };
 use status_report::statuses_agree;
+use theorem_leaves::chapters_report;
 
 /// What is reported of modules with different names is so: each theorem that is reported proved has its derivation, no valuation
 /// falsifies a leaf that is proved, printed values falsify theirs, and leaves of few connectives are decided.
-#[tactic(auto, using(crate::proofs::Meant::read_is_just, crate::proofs::Meant::read_is_decided))]
 pub fn reports_are_just()
     ensures just { ReadIsJust }
     ensures decided { ReadIsDecided }
@@ -19,6 +19,7 @@ pub fn reports_are_just()
     read_places_differ();
     statuses_are_justified();
     statuses_agree();
+    chapters_report();
     proved_holds();
     saturated_falsifies();
     canonical_forms();

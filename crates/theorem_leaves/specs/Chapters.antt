@@ -9,7 +9,7 @@ use Rattle.plain_syntax.specs.Plain.{Text, Unit, UnitKind as u, Module}
 use Rattle.proof_contexts.specs.Statuses.{cites}
 use Rattle.proof_contexts.specs.Theorems.{Known, Theorem, theorem_leaves}
 use Rattle.usable_facts.specs.Definitions.{Means, definitions_of}
-use Rattle.usable_facts.specs.Theorems.{theorem_of, unit_adds, units_adds, Done, reaches, brought, chosen_keys, is_theorem_of}
+use Rattle.usable_facts.specs.Theorems.{theorem_of, unit_adds, units_adds, Done, reaches, brought, chosen_keys, is_theorem_of, all_theorems}
 use Rattle.theorem_leaves.specs.declared.chapter.TheoremLeaves.{TheoremLeaves}
 use Rattle.theorem_leaves.specs.declared.chapter.Chapter.{Chapter}
 
