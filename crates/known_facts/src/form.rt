@@ -101,11 +101,7 @@ impl Quantifier {
     }
 
     /// What restricts the name, and what is said of it, where a formula under the quantifier has this form.
-    pub fn restriction_of(
-        self,
-        alloc: Global,
-        e: &Expr,
-    ) -> Result<Option<(Expr, Expr)>, Memory>
+    pub fn restriction_of(self, alloc: Global, e: &Expr) -> Result<Option<(Expr, Expr)>, Memory>
         ensures { IfOk result (λ o. as_pair o ≡ as_restricted self e.now) }
     {
         match self {

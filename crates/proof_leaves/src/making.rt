@@ -42,19 +42,14 @@ fn have(
         return Ok(false);
     };
     let shown = Expr::binary(alloc, Head::Imp, premise, f.copy(alloc)?)?;
-    show(alloc, table, context, place, shown, context.definitions(), leaves)?;
+    show(alloc, table, context, place, shown, leaves)?;
     context.tell(alloc, label, f.copy(alloc)?)?;
     context.replace_goal(conclusion);
     Ok(true)
 }
 
 /// TAKE of a name: goes on with the body of \A at it.
-fn take(
-    alloc: Global,
-    table: &Table,
-    context: &mut Context,
-    x: NewSymbol,
-) -> Result<bool, Memory>
+fn take(alloc: Global, table: &Table, context: &mut Context, x: NewSymbol) -> Result<bool, Memory>
     ensures { IfOk result (λ on. Goes (definitions_of table.now) (Take (sym_of x))
         (context_of context.old) on (context_of context.new)) }
 {
@@ -90,12 +85,7 @@ fn take_in(
 }
 
 /// WITNESS of an expression: goes on with the body of \E at it.
-fn witness(
-    alloc: Global,
-    table: &Table,
-    context: &mut Context,
-    t: &Expr,
-) -> Result<bool, Memory>
+fn witness(alloc: Global, table: &Table, context: &mut Context, t: &Expr) -> Result<bool, Memory>
     ensures { IfOk result (λ on. Goes (definitions_of table.now) (Witness t.now)
         (context_of context.old) on (context_of context.new)) }
 {
@@ -130,7 +120,7 @@ fn witness_in(
         return Ok(false);
     };
     let shown = element(alloc, t, set)?;
-    show(alloc, table, context, place, shown, context.definitions(), leaves)?;
+    show(alloc, table, context, place, shown, leaves)?;
     let rest = instance(alloc, &body, t.copy(alloc)?)?;
     context.tell(alloc, label, element(alloc, t, set)?)?;
     context.replace_goal(rest);
@@ -200,7 +190,8 @@ fn act(
         }
         Move::Use(facts, numbers) => {
             let facts = facts.as_slice();
-            use_all(alloc, table, context, label, facts, numbers.as_slice(), leaves)
+            let numbers = numbers.as_slice();
+            use_all(alloc, table, context, label, facts, numbers, leaves)
         }
         Move::Hide(marks, numbers) => {
             context.hide(alloc, marks.as_slice(), numbers.as_slice())?;

@@ -44,7 +44,7 @@ fn leaf(
 }
 
 /// Adds the leaf that has to show a goal from the usable facts, with the definitions of these numbers.
-pub(crate) fn show(
+fn show_with(
     alloc: Global,
     table: &Table,
     context: &Context,
@@ -61,6 +61,25 @@ pub(crate) fn show(
     let mut facts = Items::new(alloc);
     context.usable(alloc, &mut facts)?;
     leaves.push(leaf(alloc, table, place, facts, goal, numbers)?)?;
+    Ok(())
+}
+
+/// Adds the leaf that has to show a goal from the usable facts, with the usable definitions.
+pub(crate) fn show(
+    alloc: Global,
+    table: &Table,
+    context: &Context,
+    place: Place,
+    goal: Expr,
+    leaves: &mut Items<Leaf>,
+) -> Result<(), Memory>
+    requires { HasSuspects table.now }
+    ensures { OnOk result (leaves.new ≡ leaves.old
+        ++ spec.leaf (definitions_of table.now) place (usable_of (context_of context.now).known)
+        goal (context_of context.now).defs ∷ []) }
+{
+    let numbers = context.definitions();
+    show_with(alloc, table, context, place, goal, numbers, leaves)?;
     Ok(())
 }
 
@@ -117,7 +136,7 @@ fn show_fact(
         Fact::Cited(_) => Ok(()),
         Fact::Plain(place, formula) => {
             let formula = formula.copy(alloc)?;
-            show(alloc, table, context, *place, formula, numbers, leaves)?;
+            show_with(alloc, table, context, *place, formula, numbers, leaves)?;
             Ok(())
         }
     }
@@ -177,7 +196,7 @@ pub fn obvious(
         ++ spec.leaves (definitions_of table.now) (Obvious place) (context_of context.now)) }
 {
     let goal = context.goal().copy(alloc)?;
-    show(alloc, table, context, place, goal, context.definitions(), leaves)?;
+    show(alloc, table, context, place, goal, leaves)?;
     Ok(())
 }
 
@@ -204,7 +223,8 @@ fn show_goal(
     }
     context.usable(alloc, &mut start)?;
     let all = usable_numbers(alloc, context, numbers)?;
-    show_cited(alloc, table, context, place, start, facts, all.as_slice(), leaves)?;
+    let all = all.as_slice();
+    show_cited(alloc, table, context, place, start, facts, all, leaves)?;
     Ok(())
 }
 

@@ -15,9 +15,10 @@ returns-in_ok-tell-in-Case-clause-grown c =
 
 pub returns-in_ok-tell_items-in-Suffices-clause-grown : goal.returns-in_ok-tell_items-in-Suffices-clause-grown
 returns-in_ok-tell_items-in-Suffices-clause-grown c =
-    let told : Grown (context_of c.args.context.now).known (context_of c.tell_items.new.self).known =
-        grows_by_items c.args.label (items_of c.as_slice.result.now) (context_of c.args.context.now) (context_of c.tell_items.new.self) c.in_ok-tell_items-in-Suffices.ensures in
-    subst (λ x. Grown (context_of c.args.context.now).known x.known) (sym c.replace_goal.ensures.goal) told
+    let before = context_of c.args.context.now in
+    let between = context_of c.tell_items.new.self in
+    subst (λ x. Grown before.known x.known) (sym c.replace_goal.ensures.goal)
+    (grows_by_items c.args.label (items_of c.as_slice.result.now) before between c.in_ok-tell_items-in-Suffices.ensures)
 
 pub returns-in_ok-tell-in-Pick-clause-grown : goal.returns-in_ok-tell-in-Pick-clause-grown
 returns-in_ok-tell-in-Pick-clause-grown c =
