@@ -1,14 +1,13 @@
 -- What is proved of modules. Each statement is the contract of a function of src/lib.rt.
-use Rattle.std.specs.Prelude.{◌≡◌, ℕ, ◌<◌, Bool, true, false, IsTrue, List, [], ◌∷◌, Ok}
+use Rattle.std.specs.Prelude.{◌≡◌, ℕ, ◌<◌, Bool, true, IsTrue, List, [], ◌∷◌, Ok}
 use Rattle.core_expr.specs.declared.head.Sym.{Sym}
 use Rattle.core_expr.specs.declared.canon.Canon.{Canon}
 use Rattle.core_expr.specs.Tree.{Tree}
 use Rattle.obligation.specs.declared.obligation.Definition.{Definition}
-use Rattle.plain_syntax.specs.Plain.{Text, Module}
+use Rattle.plain_syntax.specs.Plain.{Module}
 use Rattle.symbol_table.specs.Scoped.{Table}
 use Rattle.module_scope.specs.Resolution.{resolution}
 use Rattle.prime_expand.specs.Laws.{Holds}
-use Rattle.prime_expand.specs.Symbols.{is_word}
 use Rattle.proof_contexts.specs.Steps.{Item}
 use Rattle.proof_contexts.specs.Contexts.{fact_of, picked}
 use Rattle.proof_contexts.specs.Statuses.{Verdict, Status, is_proved, statuses, IsReported}

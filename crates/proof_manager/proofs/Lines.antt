@@ -15,7 +15,7 @@ use Rattle.status_report.specs.Report.{all_theorems, statuses_of}
 use Rattle.proof_manager.specs.declared.status.Status.{Status}
 use Rattle.proof_manager.specs.declared.status.Status.TheVariants as status
 use Rattle.proof_manager.specs.Reading.{Read}
-use Rattle.proof_manager.specs.Causes.{all_hold, TakesReport, TakesPart, Loads, Writes, OfReported, WhereReported, IsRead, IsJust, IsDecided, ReadIsJust, ReadIsDecided, Ends, ReportCause, Justified, Decided}
+use Rattle.proof_manager.specs.Causes.{all_hold, TakesReport, TakesPart, Loads, Writes, WhereReported, IsRead, ReadIsJust, ReadIsDecided, ReportCause, Justified, Decided}
 
 -- ---- counts
 

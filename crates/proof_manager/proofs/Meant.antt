@@ -1,5 +1,5 @@
 -- What is reported of modules is so.
-use Rattle.std.proofs.Common.{◌≡◌, ℕ, Bool, true, false, if◌then◌else◌, List, [], ◌∷◌, ◌++◌, map, flat_map, Option, Some, None, Result, Ok, Err, refl, sym, ap, subst, ◌∙◌}
+use Rattle.std.proofs.Common.{◌≡◌, ℕ, Bool, true, false, if◌then◌else◌, List, [], ◌∷◌, ◌++◌, map, Option, Some, None, Result, Ok, Err, refl, sym, ap, subst, ◌∙◌}
 use Rattle.core_expr.specs.declared.canon.Canon.{Canon}
 use Rattle.tla_io.specs.Told.{Bytes, Folder}
 use Rattle.tla_ast.specs.declared.place.Place.{Place}
@@ -18,12 +18,12 @@ use Rattle.proof_contexts.specs.declared.leaf.Leaf.{Leaf}
 use Rattle.proof_contexts.specs.declared.leaf.LeafKind.{LeafKind}
 use Rattle.proof_contexts.specs.declared.leaf.LeafKind.TheVariants as kind
 use Rattle.proof_contexts.specs.Canonical.{obligation_canon}
-use Rattle.proof_contexts.specs.Statuses.{Verdict, cites, verdict, verdicts}
-use Rattle.proof_contexts.specs.Theorems.{Theorem, theorem_leaves}
+use Rattle.proof_contexts.specs.Statuses.{Verdict, verdict}
+use Rattle.proof_contexts.specs.Theorems.{Theorem}
 use Rattle.proof_contexts.specs.Leaves.{IsDerived}
 use Rattle.proof_contexts.specs.Laws.{IsSound}
 use Rattle.usable_facts.specs.Definitions.{definitions_of}
-use Rattle.usable_facts.specs.Theorems.{chosen_keys, is_theorem_of, all_theorems}
+use Rattle.usable_facts.specs.Theorems.{is_theorem_of, all_theorems}
 use Rattle.name_places.specs.Places.{NamesDiffer, PlacesDiffer}
 use Rattle.proof_assembly.specs.Laws.{StatusesAreJustified, EachDerives}
 use Rattle.reading_places.specs.Laws.{ReadPlacesDiffer}
@@ -42,9 +42,9 @@ use Rattle.status_report.specs.Laws.{StandsFor, StandFor, StatusesAgree}
 use Rattle.theorem_leaves.specs.declared.chapter.TheoremLeaves.{TheoremLeaves}
 use Rattle.theorem_leaves.specs.declared.chapter.Chapter.{Chapter}
 use Rattle.theorem_leaves.specs.Chapters.{chapters_of, IsReportOf, AreReports, reports_in, ChaptersReport}
-use Rattle.proof_manager.specs.Judging.{Answer, and_then, each, shown_answer, searched, shown_kind, judged_leaf, judged_theorem, judged_module, judged, as_verdict, verdict_on, form}
+use Rattle.proof_manager.specs.Judging.{Answer, and_then, each, shown_answer, shown_kind, judged_leaf, judged_theorem, judged_module, judged, as_verdict, verdict_on, form}
 use Rattle.proof_manager.specs.Reading.{Read, modules_fault, resolved, checked, read_with, read_of, as_outcome, reading}
-use Rattle.proof_manager.specs.Causes.{IsRead, OfKind, OfLeaves, OfTheorems, OfChapters, IsJustForm, IsJust, IsDecidedForm, IsDecided, ReadIsJust, ReadIsDecided}
+use Rattle.proof_manager.specs.Causes.{IsRead, OfKind, OfLeaves, OfTheorems, OfChapters, IsJustForm, IsDecidedForm, ReadIsJust, ReadIsDecided}
 use Rattle.proof_manager.proofs.Loaded.{loads-apart}
 
 -- ---- where there is a value
@@ -107,9 +107,14 @@ module _ (es : List Entry) where
     theorem-stands owner t j x e r =
         let a = from-value (each (judged_leaf es owner) t.leaves) _ j e in
         let l = leaves-answered owner t.leaves a.0 a.1 in
-        let same = ok-is a.2 in
-        (l.0, (ap (λ (y : TheoremIn). y.key) (sym same) ∙ r.key, ap (λ (y : TheoremIn). y.cited) (sym same) ∙ r.cited,
-            ap (λ (y : TheoremIn). leaf_verdicts y.leaves) (sym same) ∙ l.1 ∙ ap (map (λ (l : Leaf). verdict verdict_on l.kind)) r.leaves))
+        let same = ok-is a.2 in (
+          l.0,
+          (
+            ap (λ (y : TheoremIn). y.key) (sym same) ∙ r.key,
+            ap (λ (y : TheoremIn). y.cited) (sym same) ∙ r.cited,
+            ap (λ (y : TheoremIn). leaf_verdicts y.leaves) (sym same) ∙ l.1 ∙ ap (map (λ (l : Leaf). verdict verdict_on l.kind)) r.leaves,
+          ),
+        )
 
     theorem-answered : (owner : Text) (ts : List TheoremLeaves) (js : List TheoremIn) → each (judged_theorem es owner) ts ≡ Ok js → OfTheorems IsAnswered ts
     theorem-answered owner [] js e = tt
@@ -221,7 +226,7 @@ right-derives places justified agree report derives r h names =
     let is_theorem = is_theorem_of r.modules r.table in
     subst (EachDerives table (all_theorems r.modules r.table))
     (sym (agree table is_theorem verdict_on (reported_theorems r.judged) (all_theorems r.modules r.table)
-        (chapters-stand r.table.entries table is_theorem (chapters_of r.modules r.table) r.judged (all_theorems r.modules r.table) h.judged (report r.modules r.table))))
+    (chapters-stand r.table.entries table is_theorem (chapters_of r.modules r.table) r.judged (all_theorems r.modules r.table) h.judged (report r.modules r.table))))
     (justified r.modules r.table verdict_on h.resolved names (subst PlacesDiffer l.4 (loads-apart places None l.0 l.1 l.2 l.3)) (sound derives))
 
 pub read_is_just : ReadPlacesDiffer → StatusesAreJustified → StatusesAgree → ChaptersReport → ProvedDerives → ProvedIsValid → SaturatedFalsifies → FormsAreNumbered → ReadIsJust

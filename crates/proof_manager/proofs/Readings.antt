@@ -18,7 +18,7 @@ use Rattle.name_places.specs.Places.{NamesDiffer}
 use Rattle.theorem_leaves.specs.Chapters.{chapters_of}
 use Rattle.status_report.specs.declared.table.ModuleIn.{ModuleIn}
 use Rattle.proof_manager.specs.Judging.{Answer, and_then, judged}
-use Rattle.proof_manager.specs.Reading.{Read, modules_fault, resolved, checked, read_with, read_of, load_fault, as_outcome, reading}
+use Rattle.proof_manager.specs.Reading.{modules_fault, resolved, checked, read_with, read_of, load_fault, as_outcome, reading}
 use Rattle.proof_manager.specs.Causes.{Answers, ReadsAll, Loads}
 use Rattle.proof_manager.proofs.Loaded.{names-apart}
 

@@ -3,7 +3,6 @@ use Rattle.std.specs.Prelude.{◌≡◌, ◌↔◌, ℕ, ◌≤◌, ◌<◌, Boo
 use Rattle.std.specs.List.{list_all}
 use Rattle.tla_io.specs.Causes.{Rose}
 use Rattle.tla_io.specs.Told.{Bytes, Folder, with_more}
-use Rattle.tla_ast.specs.declared.fault.ScopeFault.{ScopeFault}
 use Rattle.tla_ast.specs.declared.fault.ScopeFault.TheVariants as fault
 use Rattle.plain_syntax.specs.Plain.{Module}
 use Rattle.module_shelf.specs.declared.fault.LoadFault.{LoadFault}

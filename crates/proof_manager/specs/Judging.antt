@@ -1,5 +1,5 @@
 -- What leaves come to by the written search, or the first leaf that is not answered yet.
-use Rattle.std.specs.Prelude.{ℕ, Bool, true, false, if◌then◌else◌, List, [], ◌∷◌, ◌++◌, map, Option, Some, None, Result, Ok, Err, codes}
+use Rattle.std.specs.Prelude.{if◌then◌else◌, List, [], ◌∷◌, map, Some, Result, Ok, Err, codes}
 use Rattle.core_expr.specs.declared.canon.Canon.{Canon}
 use Rattle.tla_ast.specs.declared.place.Place.{Place}
 use Rattle.tla_ast.specs.declared.fault.ScopeFault.{ScopeFault}

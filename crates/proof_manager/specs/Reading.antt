@@ -1,14 +1,12 @@
 -- What is read of modules: what their names mean, and their theorems with what their leaves come to; or the first fault.
-use Rattle.std.specs.Prelude.{◌≡◌, ℕ, suc, List, [], ◌∷◌, ◌++◌, map, take, Option, Some, None, Result, Ok, Err, codes}
+use Rattle.std.specs.Prelude.{ℕ, suc, List, [], ◌∷◌, map, take, Option, Some, None, Result, Ok, Err}
 use Rattle.tla_io.specs.Told.{Folder}
-use Rattle.tla_ast.specs.declared.place.Place.{Place}
 use Rattle.tla_ast.specs.declared.fault.Fault.{Fault}
 use Rattle.tla_ast.specs.declared.fault.Fault.TheVariants as step_fault
 use Rattle.tla_ast.specs.declared.fault.ScopeFault.{ScopeFault}
 use Rattle.tla_ast.specs.declared.fault.ScopeFault.TheVariants as fault
-use Rattle.tla_ast.specs.declared.fault.Kind.TheVariants.{Unsupported}
 use Rattle.plain_syntax.specs.Plain as plain
-use Rattle.plain_syntax.specs.Plain.{Text, Proof, UnitKind as u, Module}
+use Rattle.plain_syntax.specs.Plain.{Text, UnitKind as u, Module}
 use Rattle.plain_syntax.specs.Syntax.{module_of}
 use Rattle.symbol_table.specs.Scoped.{Table}
 use Rattle.module_scope.specs.Resolution.{resolution}

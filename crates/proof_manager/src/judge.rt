@@ -10,8 +10,8 @@ use crate::values::push_valuation;
 use canonical_form::canon;
 use core_expr::{Memory, Sym, Text};
 use obligation::Obligation;
-use propositional_search::Answer;
 use proof_contexts::{Leaf, LeafKind};
+use propositional_search::Answer;
 use sequent_answer::{answer_to, canonical_forms, is_propositional};
 use sqlite_items::Items;
 use status_report::{LeafIn, ModuleIn, Shown, TheoremIn};
@@ -36,7 +36,8 @@ fn valuation(
     values: &[bool],
 ) -> Result<Text, Memory>
     requires { length values.now ≡ length symbols.now }
-    ensures { IfOk result (λ t. t ≡ valuation_text (map (symbol_text scoped.now.entries) symbols.now) values.now) }
+    ensures { IfOk result (λ t. t ≡ valuation_text
+        (map (symbol_text scoped.now.entries) symbols.now) values.now) }
 {
     let mut text = Vec::new(alloc);
     push_valuation(&mut text, scoped, symbols, values)?;
@@ -44,14 +45,10 @@ fn valuation(
 }
 
 /// What is shown of an answer.
-fn shown(
-    alloc: Global,
-    scoped: &Scoped,
-    symbols: &[Sym],
-    answer: &Answer,
-) -> Result<Shown, Memory>
+fn shown(alloc: Global, scoped: &Scoped, symbols: &[Sym], answer: &Answer) -> Result<Shown, Memory>
     requires { HasValues (length symbols.now) answer.now }
-    ensures { IfOk result (λ s. s ≡ spec.shown_answer (map (symbol_text scoped.now.entries) symbols.now) answer.now) }
+    ensures { IfOk result (λ s. s ≡ spec.shown_answer
+        (map (symbol_text scoped.now.entries) symbols.now) answer.now) }
 {
     match answer {
         Answer::Proved { turns } => Ok(Shown::Proved(*turns)),
@@ -110,7 +107,8 @@ impl Court<'_> {
     /// What leaves come to.
     fn leaves(&self, leaves: &[Leaf]) -> Result<Items<LeafIn>, ScopeFault>
         ensures { Answers (λ ls. ls) result
-            (spec.each (spec.judged_leaf self.now.scoped.now.entries self.now.«module».now) leaves.now) }
+            (spec.each (spec.judged_leaf self.now.scoped.now.entries self.now.«module».now)
+            leaves.now) }
     {
         let mut found = Items::new(self.alloc);
         for leaf in leaves {
@@ -137,7 +135,8 @@ impl Court<'_> {
     /// Theorems.
     fn theorems(&self, theorems: &[TheoremLeaves]) -> Result<Items<TheoremIn>, ScopeFault>
         ensures { Answers (λ ts. ts) result
-            (spec.each (spec.judged_theorem self.now.scoped.now.entries self.now.«module».now) theorems.now) }
+            (spec.each (spec.judged_theorem self.now.scoped.now.entries self.now.«module».now)
+            theorems.now) }
     {
         let mut found = Items::new(self.alloc);
         for theorem in theorems {

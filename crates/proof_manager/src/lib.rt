@@ -1,8 +1,8 @@
 //! The top call: from the words of the command and the modules to the report.
 //!
-//! To the program this crate promises `run`, whose clauses are the product's claims for modules of propositional theorems,
-//! and the number and the text of each status. What is left out of a module is refused behind all other faults: an assumption, and
-//! a theorem with assumptions, with a proof that is not OBVIOUS, or with a goal that is not propositional (`specs/Outline.antt`).
+//! To the program this crate promises [`run`], whose clauses are the product's claims for all modules that are read, and the number
+//! and the text of each status. What is not answered yet is refused behind all other faults: the first leaf, in the order of the
+//! report, whose canonical form is to be proved and is not propositional (`specs/Judging.antt`).
 #![tactic(auto)]
 
 mod judge;

@@ -20,11 +20,11 @@ use Rattle.proof_contexts.specs.declared.leaf.Leaf.{Leaf}
 use Rattle.proof_contexts.specs.declared.leaf.LeafKind.TheVariants as kind
 use Rattle.proof_contexts.specs.Steps.{Step, Steps as chain}
 use Rattle.proof_contexts.specs.Contexts.{Context, given, after}
-use Rattle.proof_contexts.specs.Leaves.{a_leaf, leaves, step_leaves, own_leaves, sub_leaves}
+use Rattle.proof_contexts.specs.Leaves.{a_leaf, step_leaves, own_leaves, sub_leaves}
 use Rattle.usable_facts.specs.Keys.{label_key}
 use Rattle.usable_facts.specs.Proofs.{count, count_steps, acts, nexts, proof_of, steps_of}
 use Rattle.theorem_leaves.proofs.Walking.{acts-ended}
-use Rattle.theorem_leaves.specs.Visits.{count_all, State, act, act_all, by_move, visit, visit_all, finished}
+use Rattle.theorem_leaves.specs.Visits.{count_all, State, act_all, by_move, visit_all, finished}
 use Rattle.theorem_leaves.specs.Visits.State.{going, ended}
 
 unfoldable pub each : written → Steps → Steps

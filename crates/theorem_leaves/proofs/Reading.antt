@@ -11,7 +11,7 @@ use Rattle.proof_contexts.specs.Theorems.{Known, Theorem}
 use Rattle.known_facts.specs.Shown.{context_of}
 use Rattle.usable_facts.specs.Definitions.{Means, definitions_of}
 use Rattle.usable_facts.specs.Theorems as usable
-use Rattle.usable_facts.specs.Theorems.{unit_theorem, units_theorems, unit_adds, units_adds, reaches, brought, modules_theorems, joined, all_theorems, is_theorem_of, keys_of}
+use Rattle.usable_facts.specs.Theorems.{unit_theorem, units_theorems, unit_adds, units_adds, reaches, brought, modules_theorems, joined, is_theorem_of, keys_of}
 use Rattle.theorem_leaves.specs.Additions.{known_of}
 use Rattle.theorem_leaves.specs.declared.chapter.Chapter.{Chapter}
 use Rattle.theorem_leaves.specs.declared.units.Reading.{Reading}

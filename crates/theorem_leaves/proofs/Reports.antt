@@ -7,7 +7,7 @@ use Rattle.tla_ast.specs.declared.place.Place.{Place}
 use Rattle.plain_syntax.specs.Plain.{Unit, UnitKind as u, Module}
 use Rattle.proof_contexts.specs.Theorems.{Known, Theorem}
 use Rattle.usable_facts.specs.Definitions.{Means, definitions_of}
-use Rattle.usable_facts.specs.Theorems.{unit_theorem, units_theorems, unit_adds, units_adds, Done, reaches, brought, modules_theorems, joined, all_theorems, is_theorem_of}
+use Rattle.usable_facts.specs.Theorems.{unit_theorem, units_theorems, unit_adds, units_adds, Done, reaches, brought, modules_theorems, joined, is_theorem_of}
 use Rattle.theorem_leaves.specs.declared.chapter.TheoremLeaves.{TheoremLeaves}
 use Rattle.theorem_leaves.specs.Chapters.{ChaptersReport, AreReports, reports_in, unit_reported, units_reported, modules_reported, chapters_of}
 

@@ -1,19 +1,17 @@
 -- What the walk's functions promise follows from what the parts of a step promise.
-use Rattle.std.proofs.Common.{◌≡◌, ℕ, suc, ◌+◌, ◌<◌, length, drop, slice_index_or, Bool, true, false, if◌then◌else◌, List, [], ◌∷◌, ◌++◌, map, refl, sym, ap, subst, ◌∙◌}
+use Rattle.std.proofs.Common.{◌≡◌, ℕ, suc, ◌<◌, length, drop, slice_index_or, Bool, false, if◌then◌else◌, List, [], map, refl, sym, ap, subst, ◌∙◌}
 use Rattle.std.specs.Prelude.{Option, Some, None, Result, Ok, Err, OnOk}
 use Rattle.tla_ast.specs.declared.place.Place.{Place}
 use Rattle.tla_ast.specs.declared.unit.Step.{Step as source_step, out-Step}
 use Rattle.tla_ast.specs.declared.unit.Proof.{Proof as source}
-use Rattle.obligation.specs.declared.obligation.Definition.{Definition}
-use Rattle.symbol_table.specs.declared.entry.Entry.{Entry}
 use Rattle.plain_syntax.specs.Plain.{Move as move}
 use Rattle.plain_syntax.specs.Syntax.{move_of}
 use Rattle.proof_contexts.specs.declared.leaf.Leaf.{Leaf}
-use Rattle.proof_contexts.specs.Steps.{Proof, Step}
+use Rattle.proof_contexts.specs.Steps.{Proof}
 use Rattle.proof_contexts.specs.Contexts.{Context}
 use Rattle.proof_leaves.specs.declared.step.Move.{Move}
 use Rattle.proof_leaves.specs.declared.step.Claim.{Claim}
-use Rattle.proof_leaves.specs.Shown.{step_of, claim_of}
+use Rattle.proof_leaves.specs.Shown.{step_of}
 use Rattle.usable_facts.specs.Proofs.{acts}
 use Rattle.theorem_leaves.specs.declared.step.Written.{Written}
 use Rattle.theorem_leaves.specs.declared.step.Written.TheVariants.{Claimed, Moves}

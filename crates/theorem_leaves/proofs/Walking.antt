@@ -1,5 +1,5 @@
 -- What the walk does with one step, with several, and with a proof.
-use Rattle.std.proofs.Common.{◌≡◌, ℕ, zero, suc, ◌+◌, ◌<◌, ◌≤◌, Bool, true, false, if◌then◌else◌, List, [], ◌∷◌, ◌++◌, map, drop, length, slice_index_or, append_assoc, refl, sym, ap, subst, ◌∙◌, arith}
+use Rattle.std.proofs.Common.{◌≡◌, ℕ, zero, suc, ◌+◌, ◌<◌, Bool, true, false, if◌then◌else◌, List, [], ◌∷◌, ◌++◌, map, drop, length, slice_index_or, append_assoc, refl, sym, ap, ◌∙◌, arith}
 use Rattle.std.specs.Prelude.{Option, Some, None}
 use Rattle.std.proofs.lemmas.List.{append-nil}
 use Rattle.tla_ast.specs.declared.place.Place.{Place}
@@ -17,7 +17,7 @@ use Rattle.proof_leaves.specs.declared.step.Claim.TheVariants as claim
 use Rattle.proof_leaves.specs.Shown.{step_of, claim_of}
 use Rattle.proof_leaves.specs.Made as made
 use Rattle.proof_leaves.specs.Made.{Made}
-use Rattle.theorem_leaves.specs.Visits.{State, state_of, act, act_all}
+use Rattle.theorem_leaves.specs.Visits.{state_of, act, act_all}
 use Rattle.theorem_leaves.specs.Visits.State.{going, ended}
 
 -- the rest of a list from a place on

@@ -4,8 +4,8 @@ use Rattle.tla_ast.specs.declared.place.Place.{Place}
 use Rattle.tla_ast.specs.declared.unit.Step.{Step as written, out-Step}
 use Rattle.obligation.specs.declared.obligation.Definition.{Definition}
 use Rattle.symbol_table.specs.declared.entry.Entry.{Entry}
-use Rattle.plain_syntax.specs.Plain.{Text, Move as move}
-use Rattle.plain_syntax.specs.Syntax.{move_of} 
+use Rattle.plain_syntax.specs.Plain.{Move as move}
+use Rattle.plain_syntax.specs.Syntax.{move_of}
 use Rattle.plain_syntax.specs.Syntax.{proof_of as plain_proof}
 use Rattle.proof_contexts.specs.declared.leaf.Leaf.{Leaf}
 use Rattle.proof_contexts.specs.declared.leaf.LeafKind.TheVariants as kind

@@ -12,7 +12,7 @@ use Rattle.plain_syntax.specs.Plain.Proof.{by_facts}
 use Rattle.plain_syntax.specs.Syntax.{fact_of}
 use Rattle.plain_syntax.specs.Syntax.{proof_of as plain_proof}
 use Rattle.proof_contexts.specs.declared.leaf.Leaf.{Leaf}
-use Rattle.proof_contexts.specs.Steps.{Proof, Step}
+use Rattle.proof_contexts.specs.Steps.{Proof}
 use Rattle.proof_contexts.specs.Contexts.{Context}
 use Rattle.proof_contexts.specs.Leaves.{leaves}
 use Rattle.known_facts.specs.Clean.{definitions_of}
@@ -24,7 +24,7 @@ use Rattle.usable_facts.specs.Proofs.{count, proof_of}
 use Rattle.theorem_leaves.specs.Homes as homes
 use Rattle.theorem_leaves.specs.declared.walk.Walker.{Walker}
 use Rattle.theorem_leaves.specs.declared.walk.Stand.{Stand}
-use Rattle.theorem_leaves.specs.Visits.{State, state_of, act_all, visit, visit_all, finished}
+use Rattle.theorem_leaves.specs.Visits.{state_of, act_all, visit, visit_all, finished}
 use Rattle.theorem_leaves.specs.Visits.State.{going}
 
 -- where a step with this number stands

@@ -11,11 +11,11 @@ ghost use Rattle.theorem_leaves.specs.Chapters.{chapters_of};
 ghost use Rattle.theorem_leaves.specs.Passing.{AreDone, HasNames, IsBase, IsPassed, Passed};
 ghost use Rattle.theorem_leaves.specs.Modules as spec;
 
+use crate::chapter::Chapter;
 use crate::definition::definitions;
 use crate::home::Home;
-use crate::unit::Known;
-use crate::chapter::Chapter;
 use crate::keys::theorem_keys;
+use crate::unit::Known;
 use crate::units::{Reading, Setting};
 use core_expr::{Expr, Head, Memory, Text};
 use indexmap::IndexSet;

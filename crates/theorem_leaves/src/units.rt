@@ -11,10 +11,10 @@ ghost use Rattle.theorem_leaves.specs.Chapters.{name_of};
 ghost use Rattle.theorem_leaves.specs.Passing.{At, IsAt, IsBase};
 ghost use Rattle.theorem_leaves.specs.Theorems.{LeavesOf, IsReported, reported_unit, told_unit, passed_units};
 
-use crate::home::Home;
-use crate::unit::Known;
 use crate::chapter::TheoremLeaves;
 use crate::citations::Citations;
+use crate::home::Home;
+use crate::unit::Known;
 use crate::walk::Walker;
 use core_expr::{Memory, Text};
 use indexmap::IndexSet;

@@ -8,12 +8,14 @@ ghost use Rattle.theorem_leaves.specs.Walks.{stand_of, AnswersBy, MakesAll, Clai
 
 use crate::home::Home;
 use crate::key::label_key;
-use crate::step::Written;
 use crate::number::number_after;
+use crate::step::Written;
 use core_expr::Memory;
 use known_facts::{Context, Table};
 use proof_contexts::Leaf;
-use proof_leaves::{Claim, Move, by_facts, conclude, enter, leave, make, missing, obvious, omitted};
+use proof_leaves::{
+    Claim, Move, by_facts, conclude, enter, leave, make, missing, obvious, omitted,
+};
 use proof_outline::Outline;
 use sqlite_items::Items;
 use tla_ast::{Decl, Fact, Place, Proof, Step};
@@ -67,7 +69,9 @@ impl Walker<'_> {
         let facts = self.home.facts(self.outline, facts)?;
         let numbers = self.home.numbers(names)?;
         let (facts, numbers) = (facts.as_slice(), numbers.as_slice());
-        by_facts(alloc, self.table, context, place, only, facts, numbers, leaves)
+        by_facts(
+            alloc, self.table, context, place, only, facts, numbers, leaves,
+        )
     }
 
     /// Steps without proofs of their own, one after another. Says whether the proof goes on.
@@ -86,7 +90,15 @@ impl Walker<'_> {
     {
         let alloc = self.home.alloc;
         for step in steps {
-            if !make(alloc, self.table, context, stand.place, stand.label, step, leaves)? {
+            if !make(
+                alloc,
+                self.table,
+                context,
+                stand.place,
+                stand.label,
+                step,
+                leaves,
+            )? {
                 return Ok(false);
             }
         }
@@ -200,7 +212,14 @@ impl Walker<'_> {
                 only,
                 facts,
                 defs,
-            } => self.by(context, *at, *only, facts.as_slice(), defs.as_slice(), leaves),
+            } => self.by(
+                context,
+                *at,
+                *only,
+                facts.as_slice(),
+                defs.as_slice(),
+                leaves,
+            ),
             Proof::Steps(steps) => {
                 let saved = context.save(alloc)?;
                 self.steps(context, place, first, steps.as_slice(), leaves)?;

@@ -1,4 +1,4 @@
-use Rattle.std.proofs.Common.{◌≡◌, ◌≤◌, length, take}
+use Rattle.std.proofs.Common.{◌≡◌, length, take}
 use Rattle.proof_manager.proofs.load.keep_first.Given as goal
 
 abbrev pub invariant-loop-loaded : goal.invariant-loop-loaded

@@ -1,4 +1,4 @@
-use Rattle.std.proofs.Common.{ap, sym, subst, map, ◌∙◌}
+use Rattle.std.proofs.Common.{ap, subst, map, ◌∙◌}
 use Rattle.tla_ast.specs.declared.unit.Loaded.{Loaded}
 use Rattle.plain_syntax.specs.Syntax.{module_of}
 use Rattle.theorem_leaves.specs.Chapters.{chapters_of}

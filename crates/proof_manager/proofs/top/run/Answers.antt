@@ -1,4 +1,4 @@
-use Rattle.std.proofs.Common.{◌≡◌, ap, sym, subst, ◌∙◌}
+use Rattle.std.proofs.Common.{ap, sym, subst, ◌∙◌}
 use Rattle.std.specs.Prelude.{Some, map, option_map, string_bytes}
 use Rattle.proof_manager.specs.Words.{root_of}
 use Rattle.proof_manager.specs.Causes.{Writes, ReportCause, Justified, Decided}

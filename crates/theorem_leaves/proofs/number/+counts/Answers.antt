@@ -1,5 +1,4 @@
 use Rattle.std.proofs.Common.{◌≡◌, ◌+◌, IfOk, ap, subst, ◌∙◌, arith}
-use Rattle.plain_syntax.specs.Syntax.{proof_of as plain_proof}
 use Rattle.theorem_leaves.specs.Visits.{count_all}
 use Rattle.theorem_leaves.proofs.Proofs.{count-in-steps, count-in-none}
 use Rattle.theorem_leaves.proofs.number.+counts.Goals as goal

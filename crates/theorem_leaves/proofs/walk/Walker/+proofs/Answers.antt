@@ -1,4 +1,4 @@
-use Rattle.std.proofs.Common.{◌≡◌, OnOk, List, ◌++◌, map, arith, ◌+◌, refl, ap, sym, subst, ◌∙◌, true, false, drop}
+use Rattle.std.proofs.Common.{List, ◌++◌, map, arith, ◌+◌, refl, ap, sym, subst, ◌∙◌, true, false, drop}
 use Rattle.std.specs.Prelude.{Some, None}
 use Rattle.std.proofs.lemmas.List.{drop_all}
 use Rattle.plain_syntax.specs.Plain.{Proof as plain}
@@ -25,18 +25,18 @@ claim-returns-clause-acts t c =
     let w = c.args.self.now in
     let own = proof_at w c.args.stand.place c.args.stand.first c.args.own.now in
     let back = c.leave.ensures (claim_of c.args.stand.label c.args.claim own) (context_of c.args.context.now) c.in_ok-entered.ensures.entered
-        (λ defs. c.in_ok-proof.ensures.kept ∙ c.in_ok-entered.ensures.inside own defs) in
+    (λ defs. c.in_ok-proof.ensures.kept ∙ c.in_ok-entered.ensures.inside own defs) in
     on-ok c.conclude.result
     (λ h. claimed-acts (table w) (means w) (cite w) (entries w) c.args.stand.place c.args.stand.label c.args.claim own c.args.stand.next (context_of c.args.context.now) (context_of c.enter.new.context) (context_of c.conclude.new.context)
-        c.args.leaves.now c.proof.new.leaves (c.in_ok-entered.ensures.inside own (table w)) c.in_ok-proof.ensures.leaves
-        (ap (λ x. after (table w) (claim_of c.args.stand.label c.args.claim own) x) (sym back) ∙ h own (table w)))
+    c.args.leaves.now c.proof.new.leaves (c.in_ok-entered.ensures.inside own (table w)) c.in_ok-proof.ensures.leaves
+    (ap (λ x. after (table w) (claim_of c.args.stand.label c.args.claim own) x) (sym back) ∙ h own (table w)))
     c.conclude.ensures.after
 
 pub claim-returns-clause-grown : goal.claim-returns-clause-grown
 claim-returns-clause-grown t c =
     let own = proof_at c.args.self.now c.args.stand.place c.args.stand.first c.args.own.now in
     let back = c.leave.ensures (claim_of c.args.stand.label c.args.claim own) (context_of c.args.context.now) c.in_ok-entered.ensures.entered
-        (λ defs. c.in_ok-proof.ensures.kept ∙ c.in_ok-entered.ensures.inside own defs) in
+    (λ defs. c.in_ok-proof.ensures.kept ∙ c.in_ok-entered.ensures.inside own defs) in
     on-ok c.conclude.result (subst (λ x. Grown x.known (context_of c.conclude.new.context).known) back) c.conclude.ensures.grown
 
 pub proof-returns-in-Missing-clause-leaves : goal.proof-returns-in-Missing-clause-leaves
@@ -107,7 +107,7 @@ steps-returns-in_default-clause-visits t c =
     let w = c.args.self.now in
     let j = c.loop-step.step-index + 1 in
     let next = visits-next w c.args.steps.now c.loop-step.step-index j c.step-item.result c.loop-step.number None (context_of c.loop-step.context) (context_of c.step.new.context) c.loop-step.leaves c.step.new.leaves (omega arith) c.loop-step-test.true c.step-item.is
-        (subst (λ o. Visits w c.step-item.result c.loop-step.number (context_of c.loop-step.context) c.loop-step.leaves o (context_of c.step.new.context) c.step.new.leaves) (none-of c.in_ok-next.field-0 c.in_default.not-Some) c.in_ok-next.ensures.visits) in
+    (subst (λ o. Visits w c.step-item.result c.loop-step.number (context_of c.loop-step.context) c.loop-step.leaves o (context_of c.step.new.context) c.step.new.leaves) (none-of c.in_ok-next.field-0 c.in_default.not-Some) c.in_ok-next.ensures.visits) in
     sym (ap (finished c.args.place) (sym c.loop-step.invariant.0 ∙ next ∙ visits-ended (table w) (means w) (cite w) (entries w) (drop j c.args.steps.now) c.step.new.leaves))
 
 pub steps-returns-in_default-clause-grown : goal.steps-returns-in_default-clause-grown
@@ -115,11 +115,12 @@ steps-returns-in_default-clause-grown t c = grown-then _ _ _ c.loop-step.invaria
 
 pub steps-loop-step-preserved : goal.steps-loop-step-preserved
 steps-loop-step-preserved t c =
-    let w = c.args.self.now in
-    (sym (visits-next w c.args.steps.now c.loop-step.step-index (c.loop-step.step-index + 1) c.step-item.result c.loop-step.number (Some c.in-Some.next) (context_of c.loop-step.context) (context_of c.step.new.context) c.loop-step.leaves c.step.new.leaves (omega arith) c.loop-step-test.true c.step-item.is
-        (subst (λ o. Visits w c.step-item.result c.loop-step.number (context_of c.loop-step.context) c.loop-step.leaves o (context_of c.step.new.context) c.step.new.leaves) c.in-Some.is c.in_ok-next.ensures.visits))
-        ∙ c.loop-step.invariant.0,
-     grown-then _ _ _ c.loop-step.invariant.1 c.in_ok-next.ensures.grown)
+    let w = c.args.self.now in (
+      sym (visits-next w c.args.steps.now c.loop-step.step-index (c.loop-step.step-index + 1) c.step-item.result c.loop-step.number (Some c.in-Some.next) (context_of c.loop-step.context) (context_of c.step.new.context) c.loop-step.leaves c.step.new.leaves (omega arith) c.loop-step-test.true c.step-item.is
+          (subst (λ o. Visits w c.step-item.result c.loop-step.number (context_of c.loop-step.context) c.loop-step.leaves o (context_of c.step.new.context) c.step.new.leaves) c.in-Some.is c.in_ok-next.ensures.visits))
+          ∙ c.loop-step.invariant.0,
+      grown-then _ _ _ c.loop-step.invariant.1 c.in_ok-next.ensures.grown,
+    )
 
 pub steps-returns-clause-visits : goal.steps-returns-clause-visits
 steps-returns-clause-visits t c =
@@ -127,5 +128,5 @@ steps-returns-clause-visits t c =
     let here = going c.loop-step.number (context_of c.loop-step.context) c.loop-step.leaves in
     on-ok c.missing.result
     (λ h. h (table w) (context_of c.loop-step.context)
-        ∙ ap (finished c.args.place) (ap (λ xs. visit_all (table w) (means w) (cite w) (entries w) xs here) (sym (drop_all c.loop-step.step-index c.args.steps.now c.loop-step-test.false)) ∙ c.loop-step.invariant.0))
+    ∙ ap (finished c.args.place) (ap (λ xs. visit_all (table w) (means w) (cite w) (entries w) xs here) (sym (drop_all c.loop-step.step-index c.args.steps.now c.loop-step-test.false)) ∙ c.loop-step.invariant.0))
     c.missing.ensures

@@ -9,5 +9,5 @@ use Rattle.theorem_leaves.proofs.walk.Walker.+proofs.Given as goal
 abbrev pub invariant-steps-loop-step : goal.invariant-steps-loop-step
 invariant-steps-loop-step l =
     (visit_all (table l.self) (means l.self) (cite l.self) (entries l.self) (drop l.step-index l.steps) (going l.number (context_of l.context) l.leaves)
-        ≡ visit_all (table l.self) (means l.self) (cite l.self) (entries l.self) l.steps (going l.first (context_of l.fn.context) l.fn.leaves))
+    ≡ visit_all (table l.self) (means l.self) (cite l.self) (entries l.self) l.steps (going l.first (context_of l.fn.context) l.fn.leaves))
     × Grown (context_of l.fn.context).known (context_of l.context).known
