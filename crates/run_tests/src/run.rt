@@ -147,7 +147,7 @@ fn each_refusal_has_its_place_and_kind(rt: HostRuntime) -> Result<(), Fail> {
                 "a form that is not built",
                 "---- MODULE M ----\nCONSTANTS A, B\nTHEOREM A /\\ B => A OBVIOUS\nTHEOREM A = B OBVIOUS\n====",
                 3,
-                "refused M 4:1 Unsupported form",
+                "refused M 4:15 Unsupported form",
             ),
             (
                 "implication does not associate",
@@ -171,7 +171,7 @@ fn each_refusal_has_its_place_and_kind(rt: HostRuntime) -> Result<(), Fail> {
                 "union twice is read",
                 "---- MODULE M ----\nCONSTANTS a, b, c\nTHEOREM a \\cup b \\cup c = a OBVIOUS\n====",
                 3,
-                "refused M 3:1 Unsupported form",
+                "refused M 3:29 Unsupported form",
             ),
             (
                 "a name that is not declared",
@@ -211,8 +211,96 @@ fn extended_modules_are_answered(rt: HostRuntime) -> Result<(), Fail> {
             ("A", middle),
             ("B", "---- MODULE B ----\nCONSTANT b\nASSUME b\n===="),
         ],
-        3,
-        "refused B 3:1 Unsupported form",
+        0,
+        "module B\nmodule A\ntheorem - 4:1 proved\n  leaf 4:16 proved, 2 turns\nmodule M\ntheorem T 3:1 proved\n  leaf 3:21 proved, 2 turns\n2 theorems, 2 proved\n",
+    )?;
+    compare_modules(
+        &rt,
+        rt.alloc(),
+        "what a module that is not extended assumes",
+        &[
+            (
+                "M",
+                "---- MODULE M ----\nEXTENDS A, B\nTHEOREM U == C OBVIOUS\n====",
+            ),
+            ("A", "---- MODULE A ----\nASSUME FALSE\n===="),
+            (
+                "B",
+                "---- MODULE B ----\nCONSTANT C\nTHEOREM T == C OBVIOUS\n====",
+            ),
+        ],
+        1,
+        "module A\nmodule B\ntheorem T 3:1 unproved\n  leaf 3:16 saturated, 0 turns: C = FALSE\nmodule M\ntheorem U 3:1 proved\n  leaf 3:16 proved, 1 turns\n2 theorems, 1 proved\n",
+    )
+}
+
+#[test]
+fn proofs_by_steps_give_their_leaves(rt: HostRuntime) -> Result<(), Fail> {
+    compare(
+        &rt,
+        rt.alloc(),
+        &[
+            (
+                "cases, with a label and without",
+                "---- MODULE M ----\nCONSTANTS A, B\nTHEOREM T == ASSUME A => B PROVE B\n<1>1. CASE A OBVIOUS\n<1>2. CASE A BY <1>2\n<1> CASE A OBVIOUS\n<1> QED OBVIOUS\n====",
+                1,
+                "module M\ntheorem T 3:1 unproved\n  leaf 4:14 saturated, 1 turns: A = FALSE, B = FALSE\n  leaf 5:14 proved, 2 turns\n  leaf 6:12 proved, 2 turns\n  leaf 7:9 saturated, 1 turns: A = FALSE, B = FALSE\n1 theorems, 0 proved\n",
+            ),
+            (
+                "a theorem that is omitted, and one that cites it",
+                "---- MODULE M ----\nCONSTANT A\nTHEOREM T1 == A => A OMITTED\nTHEOREM T2 == A => A BY T1\n====",
+                1,
+                "module M\ntheorem T1 3:1 omitted\n  leaf 3:22 omitted\ntheorem T2 4:1 conditional T1\n  leaf 4:22 proved, 1 turns\n2 theorems, 0 proved\n",
+            ),
+            (
+                "a proof that is missing",
+                "---- MODULE M ----\nCONSTANT A\nTHEOREM T3 == A\n====",
+                1,
+                "module M\ntheorem T3 3:1 missing\n  leaf 3:1 missing\n1 theorems, 0 proved\n",
+            ),
+            (
+                "HAVE of a goal that is no implication",
+                "---- MODULE M ----\nCONSTANT A\nTHEOREM T == A\n<1> HAVE A\n<1> QED OBVIOUS\n====",
+                1,
+                "module M\ntheorem T 3:1 unproved\n  leaf 4:1 shape\n1 theorems, 0 proved\n",
+            ),
+            (
+                "HAVE takes an implication apart",
+                "---- MODULE M ----\nCONSTANT A\nTHEOREM T == (A => A)\n<1> HAVE A\n<1> QED OBVIOUS\n====",
+                0,
+                "module M\ntheorem T 3:1 proved\n  leaf 4:1 proved, 2 turns\n  leaf 5:9 proved, 1 turns\n1 theorems, 1 proved\n",
+            ),
+            (
+                "what a subproof knows and uses ends with it",
+                "---- MODULE M ----\nCONSTANTS A, B\nASSUME AB == A => B\nASSUME AA == A\nTHEOREM T == B\n<1>1. A\n  <2>1. A BY AA\n  <2>2. USE AA, AB\n  <2> QED BY <2>1\n<1>2. B OBVIOUS\n<1> QED BY AB, AA\n====",
+                1,
+                "module M\ntheorem T 5:1 unproved\n  leaf 7:11 proved, 1 turns\n  leaf 9:11 proved, 1 turns\n  leaf 10:9 saturated, 0 turns: B = FALSE\n  leaf 11:9 proved, 2 turns\n1 theorems, 0 proved\n",
+            ),
+            (
+                "a temporal goal",
+                "---- MODULE M ----\nVARIABLE x\nTHEOREM []x => []x OBVIOUS\n====",
+                1,
+                "module M\ntheorem - 3:1 temporal\n  leaf 3:20 temporal\n1 theorems, 0 proved\n",
+            ),
+            (
+                "a step of its own use",
+                "---- MODULE M ----\nCONSTANT A\nTHEOREM T == A\n<1>1. A BY <1>2\n<1>2. A OBVIOUS\n<1> QED OBVIOUS\n====",
+                3,
+                "refused M 4:12 StepOutOfScope",
+            ),
+            (
+                "a step that is not there",
+                "---- MODULE M ----\nCONSTANT A\nTHEOREM T == A\n<1>1. A BY <1>3\n<1> QED OBVIOUS\n====",
+                3,
+                "refused M 4:12 UnknownStep",
+            ),
+            (
+                "the first leaf that is not answered",
+                "---- MODULE M ----\nCONSTANTS A, S\nTHEOREM T == A => A OBVIOUS\nTHEOREM U == \\E y : y \\in S\n<1> SUFFICES A OBVIOUS\n<1> QED OBVIOUS\n====",
+                3,
+                "refused M 5:16 Unsupported form",
+            ),
+        ],
     )
 }
 
