@@ -1,0 +1,7 @@
+---- MODULE M ----
+CONSTANT A
+THEOREM T == A
+<1>1. A OBVIOUS
+<1>1. A OBVIOUS
+<1> QED OBVIOUS
+====

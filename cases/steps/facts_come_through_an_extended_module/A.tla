@@ -1,0 +1,4 @@
+---- MODULE A ----
+EXTENDS B
+THEOREM T == b BY AB
+====

@@ -1,0 +1,6 @@
+---- MODULE B ----
+CONSTANTS a, b, c
+ASSUME a
+ASSUME AB == a => b
+ASSUME BC == b => c
+====

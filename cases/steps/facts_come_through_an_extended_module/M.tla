@@ -1,0 +1,4 @@
+---- MODULE M ----
+EXTENDS A
+THEOREM c BY BC, T
+====

@@ -1,0 +1,11 @@
+---- MODULE M ----
+CONSTANTS A, B
+D == A /\ B
+ASSUME AB == A => B
+ASSUME A
+THEOREM T == D
+<1>1. B BY AB
+<1>2. D BY ONLY <1>1 DEF D
+<1>3. D BY <1>1 DEF D
+<1> QED BY ONLY <1>3
+====

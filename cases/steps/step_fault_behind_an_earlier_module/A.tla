@@ -1,0 +1,4 @@
+---- MODULE A ----
+CONSTANT a
+THEOREM b OBVIOUS
+====

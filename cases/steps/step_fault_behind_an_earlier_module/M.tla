@@ -1,0 +1,6 @@
+---- MODULE M ----
+EXTENDS A
+THEOREM a
+<1>1. a BY <1>2
+<1> QED OBVIOUS
+====

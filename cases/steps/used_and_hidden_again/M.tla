@@ -1,0 +1,10 @@
+---- MODULE M ----
+CONSTANTS A, B
+ASSUME X == A
+THEOREM T == A
+<1> USE X
+<1>1. A OBVIOUS
+<1> HIDE X
+<1>2. A OBVIOUS
+<1> QED BY <1>1
+====
