@@ -1,6 +1,8 @@
 pub mod WordLaws
 pub mod ValueLaws
 pub mod Walks
+pub mod Tells
+pub mod Wants
 pub mod Loaded
 pub mod Readings
 pub mod Meant

@@ -15,7 +15,8 @@ use Rattle.status_report.specs.Report.{all_theorems, statuses_of}
 use Rattle.proof_manager.specs.declared.status.Status.{Status}
 use Rattle.proof_manager.specs.declared.status.Status.TheVariants as status
 use Rattle.proof_manager.specs.Reading.{Read}
-use Rattle.proof_manager.specs.Causes.{all_hold, TakesReport, TakesPart, Loads, Writes, WhereReported, IsRead, ReadIsJust, ReadIsDecided, ReportCause, Justified, Decided}
+use Rattle.proof_manager.proofs.Tells.{modules-same}
+use Rattle.proof_manager.specs.Causes.{all_hold, TakesReport, Loads, Writes, WhereReported, IsRead, ReadIsJust, ReadIsDecided, ReportCause, Justified, Decided}
 
 -- ---- counts
 
@@ -65,9 +66,12 @@ where-ok (Err x) e h = absurd cc
 
 pub reports : (s : Status) (told : Option Folder) (root : Bytes) (js : List ModuleIn) (old new : Option Bytes) → Loads (Ok js) told root → Writes s js old new → ReportCause s told (Some root) old new
 reports s None root js old new l w = tt
-reports status.AllProved (Some folder) root js old new l w = (l.0, l.1, ap all_hold l.2 ∙ w.0, subst (λ ms. TakesReport ms old new) (sym l.2) w.1)
-reports status.NotAll (Some folder) root js old new l w = (l.0, l.1, ap all_hold l.2 ∙ w.0, subst (λ ms. TakesReport ms old new) (sym l.2) w.1)
-reports status.WriteFault (Some folder) root js old new l w = (l.0, l.1, subst (λ ms. TakesPart ms old new) (sym l.2) w)
+reports status.AllProved (Some folder) root js old new l w =
+    let same = modules-same js l.0.judged l.2 w.0 in (l.0, l.1, sym (ap all_hold same) ∙ w.1, subst (λ ms. TakesReport ms old new) same w.2)
+reports status.NotAll (Some folder) root js old new l w =
+    let same = modules-same js l.0.judged l.2 w.0 in (l.0, l.1, sym (ap all_hold same) ∙ w.1, subst (λ ms. TakesReport ms old new) same w.2)
+reports status.MemoryLeaf (Some folder) root js old new l w = (l.0, l.1, js, l.2, w.0, w.1)
+reports status.WriteFault (Some folder) root js old new l w = (l.0, l.1, js, l.2, w)
 reports status.Memory (Some folder) root js old new l w = tt
 reports _ (Some folder) root js old new l w = absurd w
 
@@ -76,6 +80,7 @@ reported : {P : Read → Type 0} (s : Status) (told : Option Folder) (root : Byt
 reported s None root js old new l w p = tt
 reported status.AllProved (Some folder) root js old new l w p = (l.0, l.1, p folder l.0 l.1 l.3)
 reported status.NotAll (Some folder) root js old new l w p = (l.0, l.1, p folder l.0 l.1 l.3)
+reported status.MemoryLeaf (Some folder) root js old new l w p = (l.0, l.1, p folder l.0 l.1 l.3)
 reported status.WriteFault (Some folder) root js old new l w p = (l.0, l.1, p folder l.0 l.1 l.3)
 reported status.Memory (Some folder) root js old new l w p = tt
 reported _ (Some folder) root js old new l w p = absurd w

@@ -36,7 +36,7 @@ use Rattle.status_report.specs.declared.table.Shown.{Shown}
 use Rattle.status_report.specs.declared.table.LeafIn.{LeafIn}
 use Rattle.status_report.specs.declared.table.TheoremIn.{TheoremIn}
 use Rattle.status_report.specs.declared.table.ModuleIn.{ModuleIn}
-use Rattle.status_report.specs.Statuses.{verdict_of, leaf_verdicts}
+use Rattle.status_report.specs.Statuses.{verdict_of, leaf_verdicts, nothing}
 use Rattle.status_report.specs.Report.{all_theorems as reported_theorems, statuses_of}
 use Rattle.status_report.specs.Laws.{StandsFor, StandFor, StatusesAgree}
 use Rattle.theorem_leaves.specs.declared.chapter.TheoremLeaves.{TheoremLeaves}
@@ -46,6 +46,7 @@ use Rattle.proof_manager.specs.Judging.{Answer, and_then, each, shown_answer, sh
 use Rattle.proof_manager.specs.Reading.{Read, modules_fault, resolved, checked, read_with, read_of, as_outcome, reading}
 use Rattle.proof_manager.specs.Causes.{IsRead, OfKind, OfLeaves, OfTheorems, OfChapters, IsJustForm, IsDecidedForm, ReadIsJust, ReadIsDecided}
 use Rattle.proof_manager.proofs.Loaded.{loads-apart}
+use Rattle.proof_manager.proofs.Wants.{each-derives, all-told}
 
 -- ---- where there is a value
 
@@ -233,7 +234,8 @@ pub read_is_just : ReadPlacesDiffer → StatusesAreJustified → StatusesAgree �
 read_is_just places justified agree report derives valid falsifies numbered folder root r e names =
     let h = read-right folder root r e in
     record {
-      derived = right-derives places justified agree report derives r h names;
+      derived = λ js told. each-derives (definitions_of r.modules r.table) (all_theorems r.modules r.table) (reported_theorems js) (reported_theorems r.judged) nothing nothing (λ k d. d) (all-told js r.judged told)
+          (right-derives places justified agree report derives r h names);
       leaves = of-chapters IsJustForm (λ o p. record { valid = valid (obligation_canon o) p; falsified = falsifies (obligation_canon o) p (numbered (map (unfolded o.defs) o.facts) (unfolded o.defs o.goal)) }) (chapters_of r.modules r.table)
           (chapters-answered r.table.entries [] (λ k. false) (chapters_of r.modules r.table) r.judged h.judged);
     }

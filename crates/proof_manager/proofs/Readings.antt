@@ -19,6 +19,7 @@ use Rattle.theorem_leaves.specs.Chapters.{chapters_of}
 use Rattle.status_report.specs.declared.table.ModuleIn.{ModuleIn}
 use Rattle.proof_manager.specs.Judging.{Answer, and_then, judged}
 use Rattle.proof_manager.specs.Reading.{modules_fault, resolved, checked, read_with, read_of, load_fault, as_outcome, reading}
+use Rattle.proof_manager.specs.Told.{ModulesTold, Tells}
 use Rattle.proof_manager.specs.Causes.{Answers, ReadsAll, Loads}
 use Rattle.proof_manager.proofs.Loaded.{names-apart}
 
@@ -57,10 +58,10 @@ stops-reading ms (Err x) e is h = subst (λ y. ReadsAll (Err y) ms) (sym is) (sa
     same fault.Memory h = tt
     same (fault.At owner place kind) h = ap (λ r. and_then r (read_with ms)) h
 
-pub reads-judged : (ms : List Module) (t : Table) (r : Answer (List ModuleIn)) → checked ms ≡ Ok t → Answers (λ js. js) r (judged t.entries (chapters_of ms t)) → ReadsAll r ms
+pub reads-judged : (ms : List Module) (t : Table) (r : Answer (List ModuleIn)) → checked ms ≡ Ok t → Tells ModulesTold r (judged t.entries (chapters_of ms t)) → ReadsAll r ms
 unfolding read_of
 reads-judged ms t (Ok js) c h =
-    (record { modules = ms; table = t; judged = js }, ap (λ r. and_then r (read_with ms)) c ∙ ap (λ r. and_then r (λ js. Ok (record { modules = ms; table = t; judged = js }))) h, refl, refl)
+    (record { modules = ms; table = t; judged = h.0 }, ap (λ r. and_then r (read_with ms)) c ∙ ap (λ r. and_then r (λ js. Ok (record { modules = ms; table = t; judged = js }))) h.1, h.2, refl)
 reads-judged ms t (Err fault.Memory) c h = tt
 reads-judged ms t (Err (fault.At owner place kind)) c h =
     ap (λ r. and_then r (read_with ms)) c ∙ ap (λ r. and_then r (λ js. Ok (record { modules = ms; table = t; judged = js }))) h

@@ -26,8 +26,9 @@ use Rattle.usable_facts.specs.Theorems.{all_theorems}
 use Rattle.proof_assembly.specs.Laws.{EachDerives}
 use Rattle.status_report.specs.declared.table.ModuleIn.{ModuleIn}
 use Rattle.status_report.specs.declared.table.Style.TheVariants.{Plain}
-use Rattle.status_report.specs.Report.{report_text, statuses_of}
+use Rattle.status_report.specs.Report.{report_text, statuses_of, has_memory_leaf}
 use Rattle.proof_manager.specs.Judging.{Answer}
+use Rattle.proof_manager.specs.Told.{ModulesTold}
 use Rattle.proof_manager.specs.Reading.{Read, read_of, reading}
 use Rattle.proof_manager.specs.declared.status.Status.{Status}
 use Rattle.proof_manager.specs.declared.status.Status.TheVariants as status
@@ -62,6 +63,7 @@ IsUntouched _ old new = Unit {0}
 abbrev pub IsUnwritten : {K : Type 0} → Status → K → K → Type 0
 IsUnwritten status.AllProved old new = Unit {0}
 IsUnwritten status.NotAll old new = Unit {0}
+IsUnwritten status.MemoryLeaf old new = Unit {0}
 IsUnwritten status.WriteFault old new = Unit {0}
 IsUnwritten _ old new = new ≡ old
 
@@ -85,11 +87,13 @@ TakesReport ms old new = new ≡ with_more old (report_of ms)
 abbrev pub TakesPart : List ModuleIn → Option Bytes → Option Bytes → Type 0
 TakesPart ms old new = (n : ℕ) × (n < length (report_of ms)) × (new ≡ with_more old (take n (report_of ms)))
 
--- what a status says of the modules and of what the sink took
+-- What a status says of the modules and of what the sink took. In a report with a Memory leaf, and in a part of a report, leaves whose
+-- search found no memory are told as that, and all else is as it is defined; without a Memory leaf the report is the defined one.
 abbrev pub Ends : Status → Folder → Bytes → Option Bytes → Option Bytes → Type 0
 Ends status.AllProved folder root old new = (r : Read) × IsRead folder root r × (all_hold r.judged ≡ true) × TakesReport r.judged old new
 Ends status.NotAll folder root old new = (r : Read) × IsRead folder root r × (all_hold r.judged ≡ false) × TakesReport r.judged old new
-Ends status.WriteFault folder root old new = (r : Read) × IsRead folder root r × TakesPart r.judged old new
+Ends status.MemoryLeaf folder root old new = (r : Read) × IsRead folder root r × (js : List ModuleIn) × ModulesTold js r.judged × (has_memory_leaf js ≡ true) × TakesReport js old new
+Ends status.WriteFault folder root old new = (r : Read) × IsRead folder root r × (js : List ModuleIn) × ModulesTold js r.judged × TakesPart js old new
 Ends (status.NotFound name) folder root old new = reading folder root ≡ Err (load.NotFound name)
 Ends (status.Refused name place kind) folder root old new = reading folder root ≡ Err (load.Refused name place kind)
 Ends status.Words folder root old new = Unit {0}
@@ -104,6 +108,7 @@ ReportCause s told root old new = WhereTold root (λ name. WhereTold told (λ fo
 abbrev pub OfReported : (Read → Type 0) → Status → Folder → Bytes → Type 0
 OfReported P status.AllProved folder root = (r : Read) × IsRead folder root r × P r
 OfReported P status.NotAll folder root = (r : Read) × IsRead folder root r × P r
+OfReported P status.MemoryLeaf folder root = (r : Read) × IsRead folder root r × P r
 OfReported P status.WriteFault folder root = (r : Read) × IsRead folder root r × P r
 OfReported P _ folder root = Unit {0}
 
@@ -137,10 +142,10 @@ pub record IsJustForm (c : Canon) : Type 0 where
   pub valid : is_proved (answer c) ≡ true → IsValid c
   pub falsified : (values : List Bool) (turns : ℕ) → answer c ≡ Saturated values turns → Falsifies (by_number values) c.facts c.goal
 
--- Each theorem that is reported proved has a derivation of its fully expanded fact from the fully expanded assumptions before it
--- alone. What is reported of its leaves is so of them.
+-- Each theorem that is reported proved, whichever searches found memory, has a derivation of its fully expanded fact from the fully
+-- expanded assumptions before it alone. What is reported of its leaves is so of them.
 pub record IsJust (r : Read) : Type 0 where
-  pub derived : EachDerives (definitions_of r.modules r.table) (all_theorems r.modules r.table) (statuses_of r.judged)
+  pub derived : (js : List ModuleIn) → ModulesTold js r.judged → EachDerives (definitions_of r.modules r.table) (all_theorems r.modules r.table) (statuses_of js)
   pub leaves : OfChapters IsJustForm (chapters_of r.modules r.table)
 
 abbrev pub Justified : Status → Option Folder → Option Bytes → Type 0
@@ -170,15 +175,16 @@ Answers view (Ok a) defined = defined ≡ Ok (view a)
 Answers view (Err fault.Memory) defined = Unit {0}
 Answers view (Err (fault.At owner place kind)) defined = defined ≡ Err (fault.At owner place kind)
 
--- what the reading of modules answers: their theorems come to these, or there is this fault, unless memory was not found
+-- what the reading of modules answers: their theorems come to these, where some searches may have found no memory, or there is this
+-- fault, unless memory was not found
 abbrev pub ReadsAll : Answer (List ModuleIn) → List Module → Type 0
-ReadsAll (Ok js) ms = (r : Read) × (read_of ms ≡ Ok r) × (r.judged ≡ js) × (r.modules ≡ ms)
+ReadsAll (Ok js) ms = (r : Read) × (read_of ms ≡ Ok r) × ModulesTold js r.judged × (r.modules ≡ ms)
 ReadsAll (Err fault.Memory) ms = Unit {0}
 ReadsAll (Err (fault.At owner place kind)) ms = read_of ms ≡ Err (fault.At owner place kind)
 
 -- how the reading of the modules ends, where the shelf tells what it holds
 abbrev pub Loads : Result (List ModuleIn) LoadFault → Option Folder → Bytes → Type 0
-Loads (Ok js) told root = WhereTold told (λ folder. (r : Read) × IsRead folder root r × (r.judged ≡ js) × NamesDiffer r.modules)
+Loads (Ok js) told root = WhereTold told (λ folder. (r : Read) × IsRead folder root r × ModulesTold js r.judged × NamesDiffer r.modules)
 Loads (Err (load.NotFound name)) told root = WhereTold told (λ folder. reading folder root ≡ Err (load.NotFound name))
 Loads (Err (load.Refused owner place kind)) told root = WhereTold told (λ folder. reading folder root ≡ Err (load.Refused owner place kind))
 Loads (Err load.ReadFault) told root = Unit {0}
@@ -186,8 +192,9 @@ Loads (Err load.Memory) told root = Unit {0}
 
 -- what the writing of the report leaves
 abbrev pub Writes : Status → List ModuleIn → Option Bytes → Option Bytes → Type 0
-Writes status.AllProved ms old new = (all_hold ms ≡ true) × TakesReport ms old new
-Writes status.NotAll ms old new = (all_hold ms ≡ false) × TakesReport ms old new
+Writes status.AllProved ms old new = (has_memory_leaf ms ≡ false) × (all_hold ms ≡ true) × TakesReport ms old new
+Writes status.NotAll ms old new = (has_memory_leaf ms ≡ false) × (all_hold ms ≡ false) × TakesReport ms old new
+Writes status.MemoryLeaf ms old new = (has_memory_leaf ms ≡ true) × TakesReport ms old new
 Writes status.WriteFault ms old new = TakesPart ms old new
 Writes status.Memory ms old new = Unit {0}
 Writes _ ms old new = ⊥

@@ -14,6 +14,7 @@ code_of (status.NotFound name) = 4
 code_of status.ReadFault = 5
 code_of status.WriteFault = 7
 code_of status.Memory = 9
+code_of status.MemoryLeaf = 10
 
 -- what is printed of a status on standard error
 abbrev pub text_of : Status → List ℕ
@@ -25,3 +26,4 @@ text_of (status.NotFound name) = codes "not found " ++ name
 text_of status.ReadFault = codes "read fault"
 text_of status.WriteFault = codes "write fault"
 text_of status.Memory = codes "memory"
+text_of status.MemoryLeaf = codes "memory in a leaf"

@@ -2,8 +2,8 @@
 
 ghost use Rattle.std.specs.Prelude.{◌≡◌, length, map, IfOk};
 ghost use Rattle.sequent_answer.specs.Answer.{HasValues};
-ghost use Rattle.proof_manager.specs.Causes.{Answers};
 ghost use Rattle.proof_manager.specs.Judging as spec;
+ghost use Rattle.proof_manager.specs.Told.{Tells, EachTold, ShownTold, LeafTold, TheoremTold, ModuleTold, ModulesTold};
 ghost use Rattle.proof_manager.specs.Values.{symbol_text, valuation_text};
 
 use crate::values::push_valuation;
@@ -72,9 +72,9 @@ impl Court<'_> {
         })
     }
 
-    /// What an obligation comes to.
+    /// What an obligation comes to, or that its search found no memory.
     fn search(&self, place: Place, of: &Obligation) -> Result<Shown, ScopeFault>
-        ensures { Answers (λ s. s) result
+        ensures { Tells ShownTold result
             (spec.searched self.now.scoped.now.entries self.now.«module».now place of.now) }
     {
         let named = canon(self.alloc, of)?;
@@ -82,22 +82,35 @@ impl Court<'_> {
             return Err(self.left_out(place)?);
         }
         canonical_forms();
-        let answer = answer_to(self.alloc, &named.canon, named.names.len() as u64)?;
-        Ok(shown(self.alloc, self.scoped, named.names.as_slice(), &answer)?)
+        let Ok(answer) = answer_to(self.alloc, &named.canon, named.names.len() as u64) else {
+            return Ok(Shown::Memory);
+        };
+        match shown(self.alloc, self.scoped, named.names.as_slice(), &answer) {
+            Ok(shown) => Ok(shown),
+            Err(_) => Ok(Shown::Memory),
+        }
+    }
+
+    /// What a leaf of this kind comes to.
+    fn kind(&self, place: Place, kind: &LeafKind) -> Result<Shown, ScopeFault>
+        ensures { Tells ShownTold result
+            (spec.shown_kind self.now.scoped.now.entries self.now.«module».now place kind.now) }
+    {
+        match kind {
+            LeafKind::Search(obligation) => self.search(place, obligation),
+            LeafKind::Missing => Ok(Shown::Missing),
+            LeafKind::Omitted => Ok(Shown::Omitted),
+            LeafKind::Temporal => Ok(Shown::Temporal),
+            LeafKind::Shape => Ok(Shown::Shape),
+        }
     }
 
     /// What a leaf comes to.
     fn leaf(&self, leaf: &Leaf) -> Result<LeafIn, ScopeFault>
-        ensures { Answers (λ l. l) result
+        ensures { Tells LeafTold result
             (spec.judged_leaf self.now.scoped.now.entries self.now.«module».now leaf.now) }
     {
-        let verdict = match &leaf.kind {
-            LeafKind::Search(obligation) => self.search(leaf.place, obligation)?,
-            LeafKind::Missing => Shown::Missing,
-            LeafKind::Omitted => Shown::Omitted,
-            LeafKind::Temporal => Shown::Temporal,
-            LeafKind::Shape => Shown::Shape,
-        };
+        let verdict = self.kind(leaf.place, &leaf.kind)?;
         Ok(LeafIn {
             place: leaf.place,
             verdict,
@@ -106,7 +119,7 @@ impl Court<'_> {
 
     /// What leaves come to.
     fn leaves(&self, leaves: &[Leaf]) -> Result<Items<LeafIn>, ScopeFault>
-        ensures { Answers (λ ls. ls) result
+        ensures { Tells (EachTold LeafTold) result
             (spec.each (spec.judged_leaf self.now.scoped.now.entries self.now.«module».now)
             leaves.now) }
     {
@@ -119,7 +132,7 @@ impl Court<'_> {
 
     /// A theorem.
     fn theorem(&self, theorem: &TheoremLeaves) -> Result<TheoremIn, ScopeFault>
-        ensures { Answers (λ t. t) result
+        ensures { Tells TheoremTold result
             (spec.judged_theorem self.now.scoped.now.entries self.now.«module».now theorem.now) }
     {
         let leaves = self.leaves(theorem.leaves.as_slice())?;
@@ -134,7 +147,7 @@ impl Court<'_> {
 
     /// Theorems.
     fn theorems(&self, theorems: &[TheoremLeaves]) -> Result<Items<TheoremIn>, ScopeFault>
-        ensures { Answers (λ ts. ts) result
+        ensures { Tells (EachTold TheoremTold) result
             (spec.each (spec.judged_theorem self.now.scoped.now.entries self.now.«module».now)
             theorems.now) }
     {
@@ -158,7 +171,7 @@ fn copy_name(alloc: Global, name: &Option<Text>) -> Result<Option<Text>, Memory>
 
 /// A module.
 fn judge_module(alloc: Global, scoped: &Scoped, chapter: &Chapter) -> Result<ModuleIn, ScopeFault>
-    ensures { Answers (λ m. m) result (spec.judged_module scoped.now.entries chapter.now) }
+    ensures { Tells ModuleTold result (spec.judged_module scoped.now.entries chapter.now) }
 {
     let court = Court {
         alloc,
@@ -178,7 +191,7 @@ pub fn judge(
     scoped: &Scoped,
     chapters: &[Chapter],
 ) -> Result<Items<ModuleIn>, ScopeFault>
-    ensures { Answers (λ ms. ms) result (spec.judged scoped.now.entries chapters.now) }
+    ensures { Tells ModulesTold result (spec.judged scoped.now.entries chapters.now) }
 {
     let mut found = Items::new(alloc);
     for chapter in chapters {

@@ -8,12 +8,12 @@ use itoa::Buffer;
 use std::alloc::{AllocError, Global};
 use tla_ast::{Kind, Place};
 
-/// How a run ended. Every status but `AllProved`, `NotAll` and `WriteFault` comes before anything was written.
+/// How a run ended. Every status but `AllProved`, `NotAll`, `MemoryLeaf` and `WriteFault` comes before anything was written.
 #[derive(Debug, Drop)]
 pub enum Status {
     /// The report was taken whole, and every theorem is proved.
     AllProved,
-    /// The report was taken whole, and some theorem is not proved.
+    /// The report was taken whole, some theorem is not proved, and every search found memory.
     NotAll,
     /// The words of the command are not lawful.
     Words,
@@ -31,8 +31,10 @@ pub enum Status {
     ReadFault,
     /// The report could not be written whole; what was taken is its front.
     WriteFault,
-    /// Memory was not found.
+    /// Memory was not found, and nothing was written.
     Memory,
+    /// The report was taken whole, and the search of some leaf found no memory.
+    MemoryLeaf,
 }
 
 /// Appends the number in decimal digits.
@@ -83,10 +85,11 @@ impl Status {
             Status::ReadFault => 5,
             Status::WriteFault => 7,
             Status::Memory => 9,
+            Status::MemoryLeaf => 10,
         }
     }
 
-    /// What is printed on standard error: nothing after a report.
+    /// What is printed on standard error: nothing after a report without a Memory leaf.
     pub fn text(&self, alloc: Global) -> Result<Text, Memory>
         ensures { IfOk result (λ t. t ≡ text_of self.now) }
     {
@@ -109,6 +112,7 @@ impl Status {
             Status::ReadFault => Text::of(alloc, b"read fault"),
             Status::WriteFault => Text::of(alloc, b"write fault"),
             Status::Memory => Text::of(alloc, b"memory"),
+            Status::MemoryLeaf => Text::of(alloc, b"memory in a leaf"),
         }
     }
 }

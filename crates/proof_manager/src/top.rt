@@ -27,7 +27,9 @@ fn write<K: Sink>(alloc: Global, modules: &[ModuleIn], out: &mut K) -> Status
     if write_whole(out, made.text.as_slice()).is_err() {
         return Status::WriteFault;
     }
-    if made.proved == made.theorems {
+    if made.memory_leaf {
+        Status::MemoryLeaf
+    } else if made.proved == made.theorems {
         Status::AllProved
     } else {
         Status::NotAll
