@@ -1,0 +1,30 @@
+use Rattle.std.proofs.Common.{◌+◌, ◌∙◌, ap, length}
+use Rattle.core_expr.specs.Nodes.{AreBelow, picked}
+use Rattle.term_shapes.specs.Forms.{grown}
+use Rattle.formula_rules.specs.Answers.{gathered}
+use Rattle.formula_rules.proofs.Listing.{placed_below, length-table}
+use Rattle.formula_rules.proofs.Giving.{parting_given}
+use Rattle.formula_rules.proofs.parting.parts_as.Goals as goal
+
+pub fetch-requires : goal.fetch-requires
+fetch-requires c =
+    let t = grown (picked c.args.bank.now c.args.terms.now) c.args.forms.now in
+    rw c.as_slice.ensures.value (placed_below c.grow.new.bank t c.in_ok-places.places.items (length c.args.terms.now + length c.args.forms.now) c.args.left.now c.in_ok-places.ensures.ok (length-table c.args.bank.now c.args.terms.now c.args.forms.now) c.requires.left)
+
+pub fetch-requires-2 : goal.fetch-requires-2
+fetch-requires-2 c =
+    let t = grown (picked c.args.bank.now c.args.terms.now) c.args.forms.now in
+    rw c.as_slice-2.ensures.value (placed_below c.grow.new.bank t c.in_ok-places.places.items (length c.args.terms.now + length c.args.forms.now) c.args.right.now c.in_ok-places.ensures.ok (length-table c.args.bank.now c.args.terms.now c.args.forms.now) c.requires.right)
+
+pub returns-clause-ok : goal.returns-clause-ok
+returns-clause-ok c =
+    let t = grown (picked c.args.bank.now c.args.terms.now) c.args.forms.now in
+    let ps = c.in_ok-places.places.items in
+    let n = length c.args.terms.now + length c.args.forms.now in
+    let e = length-table c.args.bank.now c.args.terms.now c.args.forms.now in
+    let l : AreBelow (length ps) c.args.left.now = placed_below c.grow.new.bank t ps n c.args.left.now c.in_ok-places.ensures.ok e c.requires.left in
+    let r : AreBelow (length ps) c.args.right.now = placed_below c.grow.new.bank t ps n c.args.right.now c.in_ok-places.ensures.ok e c.requires.right in
+    parting_given c.grow.new.bank t c.args.rule ps c.args.left.now c.args.right.now c.in_ok-left.left c.in_ok-right.right
+    (c.in_ok-left.ensures ∙ ap (λ p. gathered p c.args.left.now) c.as_slice.ensures.value)
+    (c.in_ok-right.ensures ∙ ap (λ p. gathered p c.args.right.now) c.as_slice-2.ensures.value)
+    c.in_ok-places.ensures.ok l r

@@ -1,0 +1,4 @@
+pub mod MetaLaws
+pub mod TermLaws
+pub mod AtomLaws
+pub mod TaskLaws

@@ -1,0 +1,16 @@
+pub mod Had
+pub mod Said
+pub mod Replaced
+pub mod Closed
+pub mod Ranked
+pub mod Valued
+pub mod Settled
+pub mod Cutting
+pub mod Equated
+pub mod Instanced
+pub mod Carried
+pub mod Telling
+pub mod Turned
+pub mod Marked
+pub mod Machined
+pub mod Whole

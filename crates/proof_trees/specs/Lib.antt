@@ -1,0 +1,12 @@
+pub mod Says
+pub mod Abstracted
+pub mod Simple
+pub mod Closings
+pub mod Valued
+pub mod Cuts
+pub mod Equated
+pub mod By
+pub mod Trees
+pub mod Machine
+pub mod Laws
+pub mod Told

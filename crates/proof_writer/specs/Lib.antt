@@ -1,0 +1,4 @@
+pub mod Shapes
+pub mod Written
+pub mod Inferences
+pub mod Seen

@@ -1,0 +1,5 @@
+pub mod LiftLaws
+pub mod TurnLaws
+pub mod MemoLaws
+pub mod BoardLaws
+pub mod RankLaws

@@ -1,0 +1,5 @@
+pub mod Entries
+pub mod Growing
+pub mod Memos
+pub mod Found
+pub mod Boards

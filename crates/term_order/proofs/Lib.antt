@@ -1,0 +1,5 @@
+pub mod FirstLaws
+pub mod SubtermLaws
+pub mod ListingLaws
+pub mod SizeLaws
+pub mod CodeLaws

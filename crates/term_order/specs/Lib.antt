@@ -1,0 +1,4 @@
+pub mod Firsts
+pub mod Walks
+pub mod Sizes
+pub mod Codes

@@ -1,0 +1,5 @@
+pub mod TreeLaws
+pub mod NodeLaws
+pub mod WalkLaws
+pub mod MoveLaws
+pub mod PlaceLaws

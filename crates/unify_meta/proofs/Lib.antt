@@ -1,0 +1,7 @@
+pub mod DifferLaws
+pub mod MetaLaws
+pub mod StepLaws
+pub mod BindingLaws
+pub mod PutLaws
+pub mod RoundLaws
+pub mod GroundLaws

@@ -1,0 +1,22 @@
+-- Bindings by indices.
+use Rattle.std.specs.Prelude.{ℕ, ◌<◌, Option, Some, None, List, [], ◌∷◌}
+use Rattle.core_expr.specs.Tree.{Tree}
+use Rattle.core_expr.specs.Nodes.{canon_sym}
+use Rattle.unifier_definition.specs.Unify.{Binding}
+use Rattle.term_bank.specs.Banks.{tree_at}
+use Rattle.unify_meta.specs.declared.binding.BoundMeta.{BoundMeta}
+
+-- the bindings with these numbers and the trees at these indices
+abbrev pub bindings : List Tree → List BoundMeta → List Binding
+bindings ts [] = []
+bindings ts (b ∷ bs) = record { name = canon_sym b.name 0; term = tree_at ts b.term } ∷ bindings ts bs
+
+-- the tree at an index, where there is one
+abbrev pub tree_for : List Tree → Option ℕ → Option Tree
+tree_for ts None = None
+tree_for ts (Some k) = Some (tree_at ts k)
+
+-- the indices of the terms are below n
+abbrev pub TermsBelow : ℕ → List BoundMeta → Type 0
+TermsBelow n [] = Unit {0}
+TermsBelow n (b ∷ bs) = (b.term < n) × TermsBelow n bs

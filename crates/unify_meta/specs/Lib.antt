@@ -1,0 +1,5 @@
+pub mod Metas
+pub mod Disagreements
+pub mod Bindings
+pub mod Rounds
+pub mod Grounds

@@ -1,0 +1,3 @@
+pub mod Reasoning
+pub mod Planning
+pub mod Keeping
