@@ -1,2 +1,3 @@
 pub mod PassedLaws
 pub mod OpenLaws
+pub mod TermLaws

@@ -4,6 +4,7 @@ use Rattle.core_expr.specs.Tree.{Tree}
 use Rattle.term_bank.specs.Banks.{tree_at, IsDistinct, Extends}
 use Rattle.search_definition.specs.Branches.{Branch, Closing, closing, closes_with, formulas}
 use Rattle.search_definition.specs.Rules.{Step, oldest}
+use Rattle.search_definition.specs.Splits.{term_split, take_up}
 use Rattle.branch_state.specs.declared.parts.New.{New}
 use Rattle.branch_state.specs.Shown.{Placed, placed_at, with_new, used_at}
 use Rattle.tableau_search.specs.Entries.{branch_of, AreKnown}
@@ -71,3 +72,15 @@ OpenFound = (ts : List Tree) (es : List Placed) (p : ℕ) (c : Closing) → IsOp
 -- no entry closes
 abbrev pub OpenEnd : Type 0
 OpenEnd = (ts : List Tree) (es : List Placed) (p : ℕ) → IsOpen ts es p → length es ≤ p → closing (branch_of ts es) ≡ None
+
+-- a rule that looks at the formula alone
+abbrev pub FormulaPositional : Type 0
+FormulaPositional = (rule : Tree → Option Step) → Shrinks (λ b. rule) × IsSteady (λ b. rule)
+
+-- the rank term split
+abbrev pub TermSplitPositional : Type 0
+TermSplitPositional = Shrinks term_split × IsSteady term_split
+
+-- the rank take up
+abbrev pub TakeUpPositional : Type 0
+TakeUpPositional = Shrinks take_up × IsSteady take_up

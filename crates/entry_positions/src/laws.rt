@@ -1,5 +1,5 @@
 //! The laws of positions. The functions do nothing: their contracts are the laws.
-ghost use Rattle.entry_positions.specs.Laws.{PassedStart, PassedAdded, PassedUsed, PassedKept, PassedNext, PassedFound, PassedNone, OpenStart, OpenAdded, OpenUsed, OpenKept, OpenNext, OpenFound, OpenEnd};
+ghost use Rattle.entry_positions.specs.Laws.{PassedStart, PassedAdded, PassedUsed, PassedKept, PassedNext, PassedFound, PassedNone, OpenStart, OpenAdded, OpenUsed, OpenKept, OpenNext, OpenFound, OpenEnd, FormulaPositional, TermSplitPositional, TakeUpPositional};
 
 /// Nothing stands before the first entry.
 pub fn passed_start()
@@ -76,4 +76,19 @@ pub fn open_found()
 #[tactic(auto, using(crate::proofs::OpenLaws::open_end))]
 pub fn open_end()
     ensures { OpenEnd }
+{}
+
+/// A rule that looks at the formula alone has positions.
+pub fn formula_positional()
+    ensures { FormulaPositional }
+{}
+
+/// The rank term split has positions.
+pub fn term_split_positional()
+    ensures { TermSplitPositional }
+{}
+
+/// The rank take up has positions.
+pub fn take_up_positional()
+    ensures { TakeUpPositional }
 {}

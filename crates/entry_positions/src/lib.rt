@@ -10,7 +10,8 @@ mod laws;
 mod positions;
 
 pub use laws::{
-    open_added, open_end, open_found, open_kept, open_next, open_start, open_used, passed_added,
-    passed_found, passed_kept, passed_next, passed_none, passed_start, passed_used,
+    formula_positional, open_added, open_end, open_found, open_kept, open_next, open_start,
+    open_used, passed_added, passed_found, passed_kept, passed_next, passed_none, passed_start,
+    passed_used, take_up_positional, term_split_positional,
 };
 pub use positions::Positions;

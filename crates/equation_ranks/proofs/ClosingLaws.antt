@@ -1,9 +1,9 @@
 -- Closings by numbers, entry by entry.
-use Rattle.std.proofs.Common.{◌≡◌, ℕ, zero, suc, ◌+◌, ◌<◌, ◌≤◌, Option, Some, None, Result, Ok, Err, List, [], ◌∷◌, ◌++◌, length, take, drop, map, Vec, Global, refl, ap, sym, ◌∙◌, subst, add-one, append_assoc, arith}
-use Rattle.std.specs.Prelude.{IfOk, IfSome}
+use Rattle.std.proofs.Common.{◌≡◌, ℕ, zero, suc, ◌+◌, ◌<◌, Option, Some, None, List, [], ◌∷◌, ◌++◌, length, take, drop, map, Vec, Global, refl, ap, sym, ◌∙◌, subst, add-one, append_assoc, arith}
+use Rattle.std.specs.Prelude.{IfSome}
 use Rattle.search_definition.specs.declared.rule.Clash.{Clash}
 use Rattle.search_trace.specs.Traces.{AreUnder}
-use Rattle.std.proofs.lemmas.List.{append-nil, take_all}
+use Rattle.std.proofs.lemmas.List.{append-nil}
 use Rattle.core_expr.specs.Tree.{Tree}
 use Rattle.term_bank.specs.Banks.{Extends, tree_at}
 use Rattle.search_definition.specs.Terms.{or_else}
@@ -15,14 +15,6 @@ use Rattle.tableau_search.specs.Entries.{AreKnown, branch_of}
 use Rattle.tableau_search.specs.Found.{IsClosing, closing_of}
 use Rattle.tableau_search.proofs.LiftLaws.{branch_kept, known_at}
 use Rattle.equation_ranks.specs.Partners.{HasClosing, number_at, formula_at, older, paired}
-
--- one case after another
-
-pub case_some : (ts : List Tree) (x y : Option Closing) (s : Shutting) → HasClosing ts x (Some s) → HasClosing ts (or_else x y) (Some s)
-case_some ts x y s h = (ap (λ o. or_else o y) h.0, h.1)
-
-pub case_none : (ts : List Tree) (x y : Option Closing) (o : Option Shutting) → HasClosing ts x None → HasClosing ts y o → HasClosing ts (or_else x y) o
-case_none ts x y o e h = subst (λ v. HasClosing ts (or_else v y) o) (sym e) h
 
 -- a formula more
 
@@ -87,9 +79,6 @@ whole ts es i c h = ap (closing_from []) (older_parts ts es i) ∙ stays_from []
 
 pub entry_closes : (ts : List Tree) (es : List Placed) (i : ℕ) (s : Shutting) (o : Option Shutting) → i < length es → closing (branch_of ts (take i es)) ≡ None → HasClosing ts (closes_with (older ts es i) (formula_at ts es i)) o → o ≡ Some s → IsClosing ts es (Some s)
 entry_closes ts es i s o l h e q = let d = subst (HasClosing ts (closes_with (older ts es i) (formula_at ts es i))) q e in (whole ts es (suc i) (closing_of ts s) (entry_closing ts es i l h ∙ d.0), d.1)
-
-pub all_open : (ts : List Tree) (es : List Placed) (i : ℕ) → length es ≤ i → closing (branch_of ts (take i es)) ≡ None → IsClosing ts es None
-all_open ts es i l h = ap (λ xs. closing (branch_of ts xs)) (sym (take_all i es l)) ∙ h
 
 pub none_open : (ts : List Tree) (es : List Placed) → closing (branch_of ts (take 0 es)) ≡ None
 unfolding closing

@@ -2,3 +2,4 @@ pub mod PlaceLaws
 pub mod ClosingLaws
 pub mod ReplaceLaws
 pub mod RewriteLaws
+pub mod PositionLaws

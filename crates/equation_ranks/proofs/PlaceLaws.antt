@@ -1,6 +1,6 @@
 -- Partners of a formula by their places.
-use Rattle.std.proofs.Common.{◌≡◌, ℕ, zero, suc, ◌<◌, ◌≤◌, Bool, true, false, nat_eq, nat_lt, Option, Some, None, List, [], ◌∷◌, length, take, refl, ap, sym, ◌∙◌, subst, arith}
-use Rattle.std.specs.Prelude.{IfSome, IfNone}
+use Rattle.std.proofs.Common.{◌≡◌, ℕ, zero, suc, ◌<◌, ◌≤◌, Bool, true, false, nat_lt, Option, Some, None, List, [], ◌∷◌, length, refl, ap, ◌∙◌, arith}
+use Rattle.std.specs.Prelude.{IfSome}
 use Rattle.std.proofs.lemmas.Bool.Decides.{nat_tests}
 use Rattle.core_expr.specs.Tree.{Tree}
 use Rattle.term_bank.specs.Banks.{tree_at}
@@ -8,26 +8,10 @@ use Rattle.search_definition.specs.declared.rule.Clash.{Clash}
 use Rattle.search_definition.specs.Terms.{if_so, either, when, or_else, first_some}
 use Rattle.search_definition.specs.Branches.{Closing, partner}
 use Rattle.formula_rules.specs.Answers.{names}
-use Rattle.branch_state.specs.Shown.{Placed, placed_at}
+use Rattle.branch_state.specs.Shown.{Placed}
 use Rattle.tableau_search.specs.Entries.{AreKnown}
 use Rattle.tableau_search.proofs.LiftLaws.{known_at}
-use Rattle.equation_ranks.specs.Partners.{number_at, is_named, is_either, IsOldest, older_of, formula_at, older, paired}
-
-equal : (m n : ℕ) → m ≡ n → nat_eq m n ≡ true
-equal m n h = grind (arith, nat_tests)
-
-differ : (m n : ℕ) → (m ≡ n → ⊥) → nat_eq m n ≡ false
-differ m n h = grind (arith, nat_tests)
-
--- the entry of a formula is the oldest with it
-pub place_oldest : (es : List Placed) (f i p : ℕ) → p < length es → number_at es p ≡ f → ((j : ℕ) → j < length es → number_at es j ≡ f → j ≡ p) → p < i → IsOldest (is_named (Some f) es) i (Some p)
-place_oldest es f i p l e o m = (m, equal (number_at es p) f e, λ k n. differ (number_at es k) f (λ q. let r = o k (omega arith) q in omega arith))
-
-pub place_later : (es : List Placed) (f i p : ℕ) → i ≤ length es → ((j : ℕ) → j < length es → number_at es j ≡ f → j ≡ p) → i ≤ p → IsOldest (is_named (Some f) es) i None
-place_later es f i p l o m = λ k n. differ (number_at es k) f (λ q. let r = o k (omega arith) q in omega arith)
-
-pub place_absent : (es : List Placed) (f i : ℕ) → i ≤ length es → ((j : ℕ) → j < length es → number_at es j ≡ f → ⊥) → IsOldest (is_named (Some f) es) i None
-place_absent es f i l o = λ k n. differ (number_at es k) f (λ q. o k (omega arith) q)
+use Rattle.equation_ranks.specs.Partners.{number_at, is_either, IsOldest, older_of, formula_at, older, paired}
 
 -- one of two tests
 

@@ -1,5 +1,6 @@
 -- Replacements by numbers, and the oldest entry that a rule fits.
-use Rattle.std.proofs.Common.{◌≡◌, ℕ, zero, suc, ◌<◌, ◌≤◌, Bool, true, false, not, Option, Some, None, List, [], ◌∷◌, length, refl, ap, sym, ◌∙◌, subst, arith, ◌⊎◌, inl, inr}
+use Rattle.std.proofs.Common.{◌≡◌, ℕ, zero, suc, ◌<◌, ◌≤◌, Bool, true, false, not, nat_lt, Option, Some, None, List, [], ◌∷◌, length, refl, ap, sym, ◌∙◌, subst, arith, ◌⊎◌, inl, inr}
+use Rattle.std.proofs.lemmas.Bool.Decides.{nat_tests}
 use Rattle.core_expr.specs.Tree.{Tree}
 use Rattle.core_expr.specs.Terms.{same}
 use Rattle.term_bank.specs.Banks.{Extends, HasTree, tree_at}
@@ -9,12 +10,12 @@ use Rattle.search_definition.specs.Terms.{if_so, or_else, after, first_some, occ
 use Rattle.core_expr.specs.Put.{IsScoped}
 use Rattle.seq_calculus.specs.Calculus.{AllClosed}
 use Rattle.search_definition.specs.Branches.{Entry, Branch, alive, formulas}
-use Rattle.search_definition.specs.Rules.{Step, Result, oldest}
+use Rattle.search_definition.specs.Rules.{Step, Result, at_entry, at_live, oldest}
 use Rattle.search_definition.specs.Rules.Sides.{Alone as One, Both}
 use Rattle.search_definition.specs.Equations.{Ordered, sides_of, step_if, replaced_by, by_sides, by_equation, replace_rule}
 use Rattle.search_definition.specs.Instances.{Fresh}
 use Rattle.search_definition.specs.Search.{by_rank}
-use Rattle.search_definition.specs.Watches.{NoneBefore, entry_at}
+use Rattle.search_definition.specs.Watches.{NoneBefore}
 use Rattle.search_definition.proofs.Positions.{oldest_found, oldest_none}
 use Rattle.search_definition.proofs.Telling.{rule_tells}
 use Rattle.branch_book.specs.declared.item.Item.{Item}
@@ -28,7 +29,7 @@ use Rattle.tableau_search.proofs.LiftLaws.{branch_kept, branch_at, branch_length
 use Rattle.equation_ranks.specs.declared.replacing.Sides.{Sides}
 use Rattle.equation_ranks.specs.declared.replacing.Replacement.{Replacement}
 use Rattle.equation_ranks.specs.Partners.{number_at, formula_at, IsOldest}
-use Rattle.equation_ranks.specs.Replacing.{AreClosed, AddsClosed, used_result, HasSides, AreSides, ordered_of, is_fit, fits_at, replaced_step, replaced_result, HasReplacement, IsReplacement, by_entry, NoneReplaces}
+use Rattle.equation_ranks.specs.Replacing.{AreClosed, AddsClosed, used_result, HasSides, AreSides, ordered_of, is_fit, fits_at, replaced_step, replaced_result, HasReplacement, IsReplacement, by_entry, NoneReplaces, FitsNone, NoneFits, first_untried}
 
 -- the oldest entry that a rule fits
 
@@ -68,8 +69,8 @@ both_hold : (x y : Bool) → if_so x y false ≡ true → (x ≡ true) × (y ≡
 both_hold true y e = (refl, e)
 both_hold false y e = cc
 
-none_fit : (ts : List Tree) (es : List Placed) (q : Tree) (o : Ordered) (k : ℕ) → ((i : ℕ) → i < k → fits_at ts es q o.greater i ≡ false) → NoneBefore (replaced_by q o) k (branch_of ts es)
-none_fit ts es q o k h = none_before ts es (replaced_by q o) k (λ i l n v. no_step q o (formula_at ts es i) (sym (ap (λ b. if_so b (is_fit q o.greater (formula_at ts es i)) false) v) ∙ h i l))
+none_fit : (ts : List Tree) (es : List Placed) (q : Tree) (o : Ordered) (k : ℕ) → FitsNone ts es q o.greater k → NoneBefore (replaced_by q o) k (branch_of ts es)
+none_fit ts es q o k h = none_before ts es (replaced_by q o) k (λ i l n v. no_step q o (formula_at ts es i) (sym (ap (λ b. if_so b (is_fit q o.greater (formula_at ts es i)) false) v) ∙ h i l n))
 
 pub fit_found : (ts : List Tree) (es : List Placed) (q p : ℕ) (s : Sides) (o : Option ℕ) → q < length ts → AreSides ts s → IsOldest (fits_at ts es (tree_at ts q) (tree_at ts s.greater)) (length es) o → o ≡ Some p
     → HasReplacement ts es (by_sides (branch_of ts es) (tree_at ts q) (ordered_of ts s)) (Some (record { equation = q; sides = s; place = p }))
@@ -78,33 +79,18 @@ fit_found ts es q p s o l a h e =
     let w = ordered_of ts s in
     let d = subst (IsOldest (fits_at ts es t w.greater) (length es)) e h in
     let b = both_hold (placed_at es p).live (is_fit t w.greater (formula_at ts es p)) d.1 in
-    (oldest_here ts es (replaced_by t w) p (replaced_step t w (formula_at ts es p)) (none_fit ts es t w p d.2) d.0 b.0 (fit_step t w (formula_at ts es p) b.1), record { within = d.0; lives = b.0; equation = l; sides = a })
+    (oldest_here ts es (replaced_by t w) p (replaced_step t w (formula_at ts es p)) (none_fit ts es t w p (λ k l m. d.2 k l)) d.0 b.0 (fit_step t w (formula_at ts es p) b.1), record { within = d.0; lives = b.0; equation = l; sides = a })
 
 pub fit_none : (ts : List Tree) (es : List Placed) (q : ℕ) (s : Sides) (o : Option ℕ) → IsOldest (fits_at ts es (tree_at ts q) (tree_at ts s.greater)) (length es) o → o ≡ None → by_sides (branch_of ts es) (tree_at ts q) (ordered_of ts s) ≡ None
 fit_none ts es q s o h e =
     let t = tree_at ts q in
     let w = ordered_of ts s in
-    oldest_nowhere ts es (replaced_by t w) (length es) (none_fit ts es t w (length es) (subst (IsOldest (fits_at ts es t w.greater) (length es)) e h)) (omega arith)
+    oldest_nowhere ts es (replaced_by t w) (length es) (none_fit ts es t w (length es) (λ k l m. subst (IsOldest (fits_at ts es t w.greater) (length es)) e h k m)) (omega arith)
 
 -- an entry as an equation
 
-entry_sides : (ts : List Tree) (es : List Placed) (i : ℕ) (x : Item) → x ≡ item_of (placed_at es i) → x.live ≡ true → by_entry ts es i ≡ after (by_sides (branch_of ts es) (tree_at ts x.formula)) (sides_of (tree_at ts x.formula))
-entry_sides ts es i x e v =
-    let b = branch_of ts es in
-    ap (λ l. if_so l (by_equation b (formula_at ts es i)) None) (sym (ap (λ (y : Item). y.live) e) ∙ v) ∙ ap (λ (y : Item). by_equation b (tree_at ts y.formula)) (sym e)
-
-pub entry_dead : (ts : List Tree) (es : List Placed) (i : ℕ) (x : Item) → x ≡ item_of (placed_at es i) → x.live ≡ false → by_entry ts es i ≡ None
-entry_dead ts es i x e v = ap (λ l. if_so l (by_equation (branch_of ts es) (formula_at ts es i)) None) (sym (ap (λ (y : Item). y.live) e) ∙ v)
-
-pub entry_other : (ts : List Tree) (es : List Placed) (i : ℕ) (x : Item) (o : Option Sides) → x ≡ item_of (placed_at es i) → x.live ≡ true → HasSides ts (sides_of (tree_at ts x.formula)) o → o ≡ None → by_entry ts es i ≡ None
-entry_other ts es i x o e v h q = entry_sides ts es i x e v ∙ ap (after (by_sides (branch_of ts es) (tree_at ts x.formula))) (subst (HasSides ts (sides_of (tree_at ts x.formula))) q h)
-
 pub sides_some : (ts : List Tree) (p : Option Ordered) (o : Option Sides) (s : Sides) → HasSides ts p o → o ≡ Some s → (p ≡ Some (ordered_of ts s)) × AreSides ts s
 sides_some ts p o s h e = subst (HasSides ts p) e h
-
-pub entry_equation : (ts : List Tree) (es : List Placed) (i : ℕ) (x : Item) (s : Sides) (o : Option Sides) → x ≡ item_of (placed_at es i) → x.live ≡ true → HasSides ts (sides_of (tree_at ts x.formula)) o → o ≡ Some s
-    → by_sides (branch_of ts es) (tree_at ts x.formula) (ordered_of ts s) ≡ by_entry ts es i
-entry_equation ts es i x s o e v h q = sym (entry_sides ts es i x e v ∙ ap (after (by_sides (branch_of ts es) (tree_at ts x.formula))) (sides_some ts (sides_of (tree_at ts x.formula)) o s h q).0)
 
 -- the oldest live entry with an answer
 
@@ -139,15 +125,8 @@ entry_replaces ts es i r o l n h e =
 pub none_replaces : (ts : List Tree) (es : List Placed) (i : ℕ) → length es ≤ i → NoneReplaces ts es i → replace_rule (branch_of ts es) ≡ None
 none_replaces ts es i l n = alive_none (by_equation (branch_of ts es)) ts es (λ k m. n k (omega (arith, m, l)) m)
 
-below : (k i : ℕ) → k < suc i → (k < i) ⊎ (k ≡ i)
+pub below : (k i : ℕ) → k < suc i → (k < i) ⊎ (k ≡ i)
 below k i l = grind arith
-
-pub entry_passed : (ts : List Tree) (es : List Placed) (i j : ℕ) (o : Option Replacement) → j ≡ suc i → NoneReplaces ts es i → HasReplacement ts es (by_entry ts es i) o → o ≡ None → NoneReplaces ts es j
-entry_passed ts es i j o q n h e k l m = go (below k i (subst (λ x. k < x) q l))
-  where
-    go : (k < i) ⊎ (k ≡ i) → by_entry ts es k ≡ None
-    go (inl a) = n k a m
-    go (inr a) = ap (by_entry ts es) a ∙ subst (HasReplacement ts es (by_entry ts es i)) e h
 
 -- a replacement that is made
 
@@ -183,12 +162,101 @@ closed_here ts (e ∷ es) (suc i) c l = closed_here ts es i c.1 (omega arith)
 pub closed_at : (ts : List Tree) (es : List Placed) (i : ℕ) (x : Item) → AreClosed ts es → i < length es → x ≡ item_of (placed_at es i) → IsScoped 0 (tree_at ts x.formula)
 closed_at ts es i x c l e = subst (λ f. IsScoped 0 (tree_at ts f)) (sym (ap (λ (y : Item). y.formula) e)) (closed_here ts es i c l)
 
-pub none_so_far : (p : ℕ → Bool) (i j : ℕ) → j ≡ suc i → ((k : ℕ) → k < i → p k ≡ false) → p i ≡ false → (k : ℕ) → k < j → p k ≡ false
-none_so_far p i j q h e k l = go (below k i (subst (λ x. k < x) q l))
+pub fits_not : (ts : List Tree) (es : List Placed) (q g : Tree) (i j : ℕ) → j ≡ suc i → FitsNone ts es q g i → fits_at ts es q g i ≡ false → FitsNone ts es q g j
+fits_not ts es q g i j p h e k l m = go (below k i (subst (λ x. k < x) p l))
   where
-    go : (k < i) ⊎ (k ≡ i) → p k ≡ false
-    go (inl a) = h k a
-    go (inr a) = ap p a ∙ e
+    go : (k < i) ⊎ (k ≡ i) → fits_at ts es q g k ≡ false
+    go (inl a) = h k a m
+    go (inr a) = ap (fits_at ts es q g) a ∙ e
 
 pub replacement_after : (ts us : List Tree) (es : List Placed) (r : Replacement) (o : Option Replacement) (f : Found) → Extends ts us → AreKnown (length ts) es → HasReplacement ts es (replace_rule (branch_of ts es)) o → o ≡ Some r → IsFound us es (Some (replaced_result ts es r)) f → IsAnswer us es (replace_rule (branch_of us es)) (Some f)
 replacement_after ts us es r o f g a h e k = answer_after ts us es replace_rule (replaced_result ts es r) f g a (subst (HasReplacement ts es (replace_rule (branch_of ts es))) e h).0 k
+
+pub none_kept : (ts us : List Tree) (es : List Placed) (rule : Tree → Option Step) (k : ℕ) → Extends ts us → AreKnown (length ts) es → NoneBefore rule k (branch_of ts es) → NoneBefore rule k (branch_of us es)
+none_kept ts us es rule k g a n = subst (NoneBefore rule k) (sym (branch_kept ts us es g a)) n
+
+-- the same said of the entries
+pub none_here : (ts : List Tree) (es : List Placed) (rule : Tree → Option Step) (k : ℕ) → NoneBefore rule k (branch_of ts es) → (i : ℕ) → i < k → i < length es → (placed_at es i).live ≡ true → rule (formula_at ts es i) ≡ None
+none_here ts es rule k n i l m v =
+    let e = branch_at ts es i m in
+    ap (λ (x : Entry). rule x.formula) (sym e) ∙ n i l (subst (λ n. i < n) (sym (branch_length ts es)) m) (ap (λ (x : Entry). x.live) e ∙ v)
+
+-- equations that were tried
+
+-- an entry that was tried on the others before n
+pub tried_on : (ts : List Tree) (es : List Placed) (n i : ℕ) (x : Item) (o : Option Sides) (s : Sides) → NoneFits ts es n → i < n → i < length es → x ≡ item_of (placed_at es i) → x.live ≡ true → HasSides ts (sides_of (tree_at ts x.formula)) o → o ≡ Some s
+    → FitsNone ts es (tree_at ts x.formula) (tree_at ts s.greater) n
+tried_on ts es n i x o s h l m e v g q =
+    let p = ap (λ (y : Item). y.formula) e in
+    let w = (sides_some ts (sides_of (tree_at ts x.formula)) o s g q).0 in
+    subst (λ f. FitsNone ts es (tree_at ts f) (tree_at ts s.greater) n) (sym p) (h i l m (sym (ap (λ (y : Item). y.live) e) ∙ v) (ordered_of ts s) (sym (ap (λ f. sides_of (tree_at ts f)) p) ∙ w))
+
+-- where all were tried on one another, the rank gives nothing
+pub all_tried : (ts : List Tree) (es : List Placed) (n : ℕ) → length es ≤ n → NoneFits ts es n → replace_rule (branch_of ts es) ≡ None
+all_tried ts es n l h = alive_none (by_equation (branch_of ts es)) ts es (λ i m. go i m (placed_at es i).live refl (sides_of (formula_at ts es i)) refl)
+  where
+    go : (i : ℕ) → i < length es → (b : Bool) → (placed_at es i).live ≡ b → (o : Option Ordered) → sides_of (formula_at ts es i) ≡ o → if_so b (by_equation (branch_of ts es) (formula_at ts es i)) None ≡ None
+    go i m false v o q = refl
+    go i m true v None q = ap (after (by_sides (branch_of ts es) (formula_at ts es i))) q
+    go i m true v (Some o) q =
+        let f = formula_at ts es i in
+        ap (after (by_sides (branch_of ts es) f)) q
+        ∙ oldest_nowhere ts es (replaced_by f o) n (none_fit ts es f o n (h i (omega (arith, m, l)) m v o q)) l
+
+-- and the other way round
+
+neither : {A : Type 0} (o p : Option A) → or_else o p ≡ None → (o ≡ None) × (p ≡ None)
+neither None p h = (refl, h)
+neither (Some x) p h = cc
+
+module _ {B : Type 0} (g : Tree → Option B) (ts : List Tree) where
+  alive_each : (es : List Placed) → first_some g (alive (branch_of ts es)) ≡ None → (i : ℕ) → i < length es → (placed_at es i).live ≡ true → g (formula_at ts es i) ≡ None
+  alive_each [] h i l v = absurd (omega arith)
+  alive_each (e ∷ es) h i l v = go i l v (neither (if_so e.live (g (tree_at ts e.formula)) None) (first_some g (alive (branch_of ts es))) (sym (alive_more g ts e.live (tree_at ts e.formula) (alive (branch_of ts es))) ∙ h)) (alive_each es)
+    where
+      go : (i : ℕ) → i < length (e ∷ es) → (placed_at (e ∷ es) i).live ≡ true → (if_so e.live (g (tree_at ts e.formula)) None ≡ None) × (first_some g (alive (branch_of ts es)) ≡ None)
+          → (first_some g (alive (branch_of ts es)) ≡ None → (i : ℕ) → i < length es → (placed_at es i).live ≡ true → g (formula_at ts es i) ≡ None) → g (formula_at ts (e ∷ es) i) ≡ None
+      go zero l v p r = sym (ap (λ b. if_so b (g (tree_at ts e.formula)) None) v) ∙ p.0
+      go (suc i) l v p r = r p.1 i (omega arith) v
+
+entry_none : (i : ℕ) (o : Option Step) → at_entry i o ≡ None → o ≡ None
+entry_none i None e = refl
+entry_none i (Some s) e = cc
+
+oldest_each : (ts : List Tree) (rule : Tree → Option Step) (n : ℕ) (es : List Placed) → oldest rule n (branch_of ts es) ≡ None → (i : ℕ) → i < length es → (placed_at es i).live ≡ true → rule (formula_at ts es i) ≡ None
+oldest_each ts rule n [] h i l v = absurd (omega arith)
+oldest_each ts rule n (e ∷ es) h i l v = go i l v (neither (at_entry n (at_live rule e.live (tree_at ts e.formula))) (oldest rule (suc n) (branch_of ts es)) h) (oldest_each ts rule (suc n) es)
+  where
+    go : (i : ℕ) → i < length (e ∷ es) → (placed_at (e ∷ es) i).live ≡ true → (at_entry n (at_live rule e.live (tree_at ts e.formula)) ≡ None) × (oldest rule (suc n) (branch_of ts es) ≡ None)
+        → (oldest rule (suc n) (branch_of ts es) ≡ None → (i : ℕ) → i < length es → (placed_at es i).live ≡ true → rule (formula_at ts es i) ≡ None) → rule (formula_at ts (e ∷ es) i) ≡ None
+    go zero l v p r = sym (ap (λ b. at_live rule b (tree_at ts e.formula)) v) ∙ entry_none n (at_live rule e.live (tree_at ts e.formula)) p.0
+    go (suc i) l v p r = r p.1 i (omega arith) v
+
+not_fit : (q : Tree) (o : Ordered) (f : Tree) → replaced_by q o f ≡ None → is_fit q o.greater f ≡ false
+not_fit q o f h = go (same q f) (occurs o.greater f) h
+  where
+    go : (x y : Bool) → step_if (not x) (step_if y (Some (replaced_step q o f))) ≡ None → if_so x false y ≡ false
+    go true y e = refl
+    go false true e = cc
+    go false false e = refl
+
+pub none_fits : (ts : List Tree) (es : List Placed) → replace_rule (branch_of ts es) ≡ None → NoneFits ts es (length es)
+none_fits ts es h i m l v o q k n p =
+    let f = formula_at ts es i in
+    let a = alive_each (by_equation (branch_of ts es)) ts es h i l v in
+    let b : by_sides (branch_of ts es) f o ≡ None = sym (ap (after (by_sides (branch_of ts es) f)) q) ∙ a in
+    go (placed_at es k).live refl (oldest_each ts (replaced_by f o) 0 es b k p)
+  where
+    go : (b : Bool) → (placed_at es k).live ≡ b → ((placed_at es k).live ≡ true → replaced_by (formula_at ts es i) o (formula_at ts es k) ≡ None) → if_so b (is_fit (formula_at ts es i) o.greater (formula_at ts es k)) false ≡ false
+    go true v r = not_fit (formula_at ts es i) o (formula_at ts es k) (r v)
+    go false v r = refl
+
+pub untried_after : (i n s k : ℕ) → s ≡ first_untried i n → k < s → (i < n) × (k < n)
+untried_after i n s k e l = go (nat_lt i n) refl (subst (λ x. k < x) e l)
+  where
+    less : (m n : ℕ) → nat_lt m n ≡ true → m < n
+    less m n e = grind (arith, nat_tests)
+
+    go : (b : Bool) → nat_lt i n ≡ b → k < if_so b n 0 → (i < n) × (k < n)
+    go true q l = (less i n q, l)
+    go false q l = absurd (omega (arith, l))

@@ -1,5 +1,5 @@
 -- Equations used on other entries, and answers of rules by numbers.
-use Rattle.std.specs.Prelude.{◌≡◌, ℕ, ◌<◌, Bool, true, false, Option, Some, None, List, [], ◌∷◌, length, map}
+use Rattle.std.specs.Prelude.{◌≡◌, ℕ, ◌<◌, Bool, true, false, nat_lt, Option, Some, None, List, [], ◌∷◌, length, map}
 use Rattle.core_expr.specs.Tree.{Tree}
 use Rattle.core_expr.specs.Put.{IsScoped}
 use Rattle.core_expr.specs.Terms.{same}
@@ -11,7 +11,7 @@ use Rattle.search_definition.specs.Terms.{if_so, occurs, replace}
 use Rattle.search_definition.specs.Branches.{formulas}
 use Rattle.search_definition.specs.Rules.{Step, Result}
 use Rattle.search_definition.specs.Rules.Sides.{Alone as One}
-use Rattle.search_definition.specs.Equations.{Ordered, by_equation}
+use Rattle.search_definition.specs.Equations.{Ordered, sides_of, by_equation}
 use Rattle.branch_state.specs.Shown.{Placed, placed_at}
 use Rattle.tableau_search.specs.declared.finder.Found.{Found}
 use Rattle.tableau_search.specs.declared.finder.Found.TheVariants.{Alone, Splits}
@@ -58,6 +58,14 @@ is_fit q greater f = if_so (same q f) false (occurs greater f)
 abbrev pub fits_at : List Tree → List Placed → Tree → Tree → ℕ → Bool
 fits_at ts es q greater k = if_so (placed_at es k).live (is_fit q greater (formula_at ts es k)) false
 
+-- the equation q fits none of the oldest n entries
+abbrev pub FitsNone : List Tree → List Placed → Tree → Tree → ℕ → Type 0
+FitsNone ts es q greater n = (k : ℕ) → k < n → k < length es → fits_at ts es q greater k ≡ false
+
+-- no live entry of the oldest n, as an equation, fits another one of them
+abbrev pub NoneFits : List Tree → List Placed → ℕ → Type 0
+NoneFits ts es n = (i : ℕ) → i < n → i < length es → (placed_at es i).live ≡ true → (o : Ordered) → sides_of (formula_at ts es i) ≡ Some o → FitsNone ts es (formula_at ts es i) o.greater n
+
 -- f with the smaller side for the greater side of the equation q
 abbrev pub replaced_step : Tree → Ordered → Tree → Step
 replaced_step q o f = record { rule = Replaced; named = f ∷ q ∷ []; terms = o.greater ∷ o.smaller ∷ []; sides = One (replace o.greater o.smaller f ∷ []) }
@@ -85,3 +93,7 @@ by_entry ts es i = if_so (placed_at es i).live (by_equation (branch_of ts es) (f
 -- none of the oldest k entries gives something as an equation
 abbrev pub NoneReplaces : List Tree → List Placed → ℕ → Type 0
 NoneReplaces ts es k = (i : ℕ) → i < k → i < length es → by_entry ts es i ≡ None
+
+-- the first entry that the i-th one, as an equation, was not tried on, where those before n were tried on one another
+abbrev pub first_untried : ℕ → ℕ → ℕ
+first_untried i n = if_so (nat_lt i n) n 0

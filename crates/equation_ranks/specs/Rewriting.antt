@@ -8,6 +8,8 @@ use Rattle.search_definition.specs.Terms.{replace}
 use Rattle.search_definition.specs.Rules.{Result}
 use Rattle.search_definition.specs.Rules.Sides.{Alone as One}
 use Rattle.search_definition.specs.Plain.{Rewrite}
+use Rattle.tableau_search.specs.declared.finder.Found.{Found}
+use Rattle.tableau_search.specs.declared.finder.Found.TheVariants.{Alone, Splits}
 use Rattle.formula_rules.specs.declared.rewriting.Equation.{Equation}
 use Rattle.formula_rules.specs.Answers.{IsEquation}
 
@@ -27,3 +29,9 @@ HasRewrite ts o (Some e) = IsRewrite ts e o
 abbrev pub rewritten_result : List Tree → ℕ → ℕ → Equation → Result
 rewritten_result ts i f e =
     record { entry = i; step = record { rule = Rewritten e.schema; named = tree_at ts f ∷ []; terms = tree_at ts e.from ∷ tree_at ts e.to ∷ []; sides = One (replace (tree_at ts e.from) (tree_at ts e.to) (tree_at ts f) ∷ []) } }
+
+-- the entry of what was found, or n where nothing was
+abbrev pub place_of : Option Found → ℕ → ℕ
+place_of None n = n
+place_of (Some (Alone u ns)) n = u.entry
+place_of (Some (Splits u ns ms)) n = u.entry

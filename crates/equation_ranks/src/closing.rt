@@ -95,7 +95,8 @@ fn by_mirror(
     requires mirror { (g : ℕ) → g < length bank.now
         → is_mirror_not (tree_at bank.now f) (tree_at bank.now g) ≡ names mirror g }
     ensures { IfOk result (HasClosing bank.now (first_some
-        (partner DeniedMirror is_mirror_not (tree_at bank.now f)) (older bank.now (shown parts.now).now i))) }
+        (partner DeniedMirror is_mirror_not (tree_at bank.now f))
+        (older bank.now (shown parts.now).now i))) }
 {
     let place = oldest_of(parts, i, mirror, mirror_denied(bank, f));
     pair(alloc, parts, Clash::DeniedMirror, f, place)

@@ -26,13 +26,7 @@ fn place_among(parts: &Parts, i: u64, formula: u64) -> Option<u64>
     ensures { IsOldest (is_named (Some formula) (shown parts.now).now) i result }
 {
     match place_of(parts, formula) {
-        Some(place) => {
-            if place < i {
-                Some(place)
-            } else {
-                None
-            }
-        }
+        Some(place) => { if place < i { Some(place) } else { None } }
         None => None,
     }
 }
@@ -54,13 +48,7 @@ fn older_of(a: Option<u64>, b: Option<u64>) -> Option<u64>
     ensures { result ≡ older_of a b }
 {
     match (a, b) {
-        (Some(i), Some(j)) => {
-            if i < j {
-                Some(i)
-            } else {
-                Some(j)
-            }
-        }
+        (Some(i), Some(j)) => { if i < j { Some(i) } else { Some(j) } }
         (Some(i), None) => Some(i),
         (None, other) => other,
     }

@@ -1,5 +1,5 @@
 //! Rank replace.
-ghost use Rattle.std.specs.Prelude.{◌≡◌, ◌<◌, ◌≤◌, ◌∷◌, [], ℕ, true, Some, List, length, IfOk};
+ghost use Rattle.std.specs.Prelude.{◌≡◌, ◌<◌, ◌≤◌, ◌∷◌, [], ℕ, true, Some, None, List, length, IfOk};
 ghost use Rattle.core_expr.specs.Tree.{Tree, eq_};
 ghost use Rattle.core_expr.specs.Put.{IsScoped};
 ghost use Rattle.core_expr.specs.Nodes.{AreBelow};
@@ -11,7 +11,7 @@ ghost use Rattle.branch_state.specs.Parts.{Holds, shown};
 ghost use Rattle.tableau_search.specs.Entries.{AreKnown, branch_of};
 ghost use Rattle.tableau_search.specs.Found.{IsFound, IsAnswer};
 ghost use Rattle.equation_ranks.specs.Partners.{IsOldest};
-ghost use Rattle.equation_ranks.specs.Replacing.{AreClosed, AddsClosed, HasSides, AreSides, ordered_of, fits_at, HasReplacement, IsReplacement, replaced_result, by_entry, NoneReplaces};
+ghost use Rattle.equation_ranks.specs.Replacing.{AreClosed, AddsClosed, HasSides, AreSides, ordered_of, fits_at, HasReplacement, IsReplacement, replaced_result, by_entry, FitsNone, NoneFits, first_untried};
 
 use crate::found::alone_found;
 use branch_state::{Parts, entry, length};
@@ -105,21 +105,24 @@ fn fits(
     occurs(bank, alloc, greater, item.formula)
 }
 
-/// The oldest live entry that the equation q with this greater side fits.
+/// The oldest live entry that the equation q with this greater side fits, where it fits none of the oldest `start`.
 fn oldest_fit(
     bank: &Bank,
     alloc: Global,
     parts: &Parts,
     q: u64,
     greater: u64,
+    start: u64,
 ) -> Result<Option<u64>, Memory>
     requires held { Holds parts.now }
     requires known { AreKnown (length bank.now) (shown parts.now).now }
     requires below { AreBelow (length bank.now) (q ∷ greater ∷ []) }
+    requires before { FitsNone bank.now (shown parts.now).now
+        (tree_at bank.now q) (tree_at bank.now greater) start }
     ensures { IfOk result (IsOldest (fits_at bank.now (shown parts.now).now
         (tree_at bank.now q) (tree_at bank.now greater)) (length (shown parts.now).now)) }
 {
-    for i in 0..length(parts) {
+    for i in start..length(parts) {
         if fits(bank, alloc, parts, q, greater, i)? {
             return Ok(Some(i));
         }
@@ -127,22 +130,27 @@ fn oldest_fit(
     Ok(None)
 }
 
-/// The replacement by the equation q with these sides, in the oldest live entry that it fits.
+/// The replacement by the equation q with these sides, in the oldest live entry that it fits, where it fits none of the oldest
+/// `start`.
 fn by_sides(
     bank: &Bank,
     alloc: Global,
     parts: &Parts,
     q: u64,
     sides: Sides,
+    start: u64,
 ) -> Result<Option<Replacement>, Memory>
     requires held { Holds parts.now }
     requires known { AreKnown (length bank.now) (shown parts.now).now }
     requires equation { q < length bank.now }
     requires sides { AreSides bank.now sides }
+    requires before { FitsNone bank.now (shown parts.now).now
+        (tree_at bank.now q) (tree_at bank.now sides.greater) start }
     ensures { IfOk result (HasReplacement bank.now (shown parts.now).now
-        (by_sides (branch_of bank.now (shown parts.now).now) (tree_at bank.now q) (ordered_of bank.now sides))) }
+        (by_sides (branch_of bank.now (shown parts.now).now)
+        (tree_at bank.now q) (ordered_of bank.now sides))) }
 {
-    match oldest_fit(bank, alloc, parts, q, sides.greater)? {
+    match oldest_fit(bank, alloc, parts, q, sides.greater, start)? {
         Some(place) => Ok(Some(Replacement {
             equation: q,
             sides,
@@ -152,19 +160,28 @@ fn by_sides(
     }
 }
 
-/// The replacement by the entry `i` as an equation, where it is live.
+/// The first entry that the entry `i` was not tried on, where those before `seen` were tried on one another.
+fn first_untried(i: u64, seen: u64) -> u64
+    ensures { result ≡ first_untried i seen }
+{
+    if i < seen { seen } else { 0 }
+}
+
+/// The replacement by the entry `i` as an equation, where it is live, and no entry before `seen` fits another such one.
 fn by_entry(
     bank: &Bank,
     sizes: &mut Sizes,
     alloc: Global,
     parts: &Parts,
     i: u64,
+    seen: u64,
 ) -> Result<Option<Replacement>, Memory>
     requires held { Holds parts.now }
     requires known { AreKnown (length bank.now) (shown parts.now).now }
     requires closed { AreClosed bank.now (shown parts.now).now }
     requires sizes { AreSizes bank.now sizes.old }
     requires within { i < length (shown parts.now).now }
+    requires seen { NoneFits bank.now (shown parts.now).now seen }
     ensures sizes { AreSizes bank.now sizes.new }
     ensures ok { IfOk result (HasReplacement bank.now (shown parts.now).now
         (by_entry bank.now (shown parts.now).now i)) }
@@ -174,30 +191,37 @@ fn by_entry(
         return Ok(None);
     }
     match sides_of(bank, sizes, item.formula)? {
-        Some(sides) => by_sides(bank, alloc, parts, item.formula, sides),
+        Some(sides) => {
+            let start = first_untried(i, seen);
+            by_sides(bank, alloc, parts, item.formula, sides, start)
+        }
         None => Ok(None),
     }
 }
 
-/// The replacement by the oldest live equation that fits some other live entry, where none of the oldest `start` entries does.
+/// The replacement by the oldest live equation that fits some other live entry, where no entry before `seen` fits another such
+/// one.
 fn oldest_replacement(
     bank: &Bank,
     sizes: &mut Sizes,
     alloc: Global,
     parts: &Parts,
-    start: u64,
+    seen: u64,
 ) -> Result<Option<Replacement>, Memory>
     requires held { Holds parts.now }
     requires known { AreKnown (length bank.now) (shown parts.now).now }
     requires closed { AreClosed bank.now (shown parts.now).now }
     requires sizes { AreSizes bank.now sizes.old }
-    requires before { NoneReplaces bank.now (shown parts.now).now start }
+    requires seen { NoneFits bank.now (shown parts.now).now seen }
     ensures sizes { AreSizes bank.now sizes.new }
     ensures ok { IfOk result (HasReplacement bank.now (shown parts.now).now
         (replace_rule (branch_of bank.now (shown parts.now).now))) }
 {
-    for i in start..length(parts) {
-        match by_entry(bank, sizes, alloc, parts, i)? {
+    if seen >= length(parts) {
+        return Ok(None);
+    }
+    for i in 0..length(parts) {
+        match by_entry(bank, sizes, alloc, parts, i, seen)? {
             Some(replacement) => return Ok(Some(replacement)),
             None => {}
         }
@@ -235,29 +259,32 @@ fn replaced(
     )
 }
 
-/// Rank replace, where none of the oldest `start` entries fits another as an equation: the oldest live equation that fits some
-/// other live entry; the oldest such entry dies and gives itself with the smaller side for the greater.
+/// Rank replace, where no live entry before `seen` fits, as an equation, another such one: the oldest live equation that fits some
+/// other live entry; the oldest such entry dies and gives itself with the smaller side for the greater. Only what is not before
+/// `seen` is tried.
 pub fn replace_from(
     bank: &mut Bank,
     sizes: &mut Sizes,
     alloc: Global,
     parts: &Parts,
-    start: u64,
+    seen: u64,
 ) -> Result<Option<Found>, Memory>
     requires held { Holds parts.now }
     requires known { AreKnown (length bank.old) (shown parts.now).now }
     requires closed { AreClosed bank.old (shown parts.now).now }
     requires sizes { AreSizes bank.old sizes.old }
-    requires before { NoneReplaces bank.old (shown parts.now).now start }
+    requires seen { NoneFits bank.old (shown parts.now).now seen }
     ensures extends { Extends bank.old bank.new }
     ensures distinct { IsDistinct bank.new }
     ensures sizes { AreSizes bank.new sizes.new }
     ensures answer { IfOk result (IsAnswer bank.new (shown parts.now).now
         (replace_rule (branch_of bank.new (shown parts.now).now))) }
     ensures closed { IfOk result (AddsClosed bank.new) }
+    ensures tried { IfOk result (λ o. o ≡ None
+        → NoneFits bank.new (shown parts.now).now (length (shown parts.now).now)) }
 {
     let _count = bank.count();
-    match oldest_replacement(bank, sizes, alloc, parts, start)? {
+    match oldest_replacement(bank, sizes, alloc, parts, seen)? {
         Some(replacement) => Ok(Some(replaced(bank, alloc, parts, replacement)?)),
         None => Ok(None),
     }
@@ -280,6 +307,8 @@ pub fn replace_rank(
     ensures answer { IfOk result (IsAnswer bank.new (shown parts.now).now
         (replace_rule (branch_of bank.new (shown parts.now).now))) }
     ensures closed { IfOk result (AddsClosed bank.new) }
+    ensures tried { IfOk result (λ o. o ≡ None
+        → NoneFits bank.new (shown parts.now).now (length (shown parts.now).now)) }
 {
     replace_from(bank, sizes, alloc, parts, 0)
 }

@@ -14,7 +14,7 @@ ghost use Rattle.tableau_search.specs.Entries.{AreKnown, branch_of};
 ghost use Rattle.tableau_search.specs.Found.{IsFound, IsAnswer};
 ghost use Rattle.equation_ranks.specs.Partners.{formula_at};
 ghost use Rattle.equation_ranks.specs.Replacing.{AreClosed, AddsClosed};
-ghost use Rattle.equation_ranks.specs.Rewriting.{HasRewrite, rewritten_result};
+ghost use Rattle.equation_ranks.specs.Rewriting.{HasRewrite, rewritten_result, place_of};
 
 use crate::found::alone_found;
 use branch_state::{Parts, entry, length};
@@ -28,11 +28,7 @@ use term_order::closed_subterms;
 use term_walks::replace;
 
 /// The equation of the first of these closed terms that has one.
-fn first_equation(
-    bank: &mut Bank,
-    alloc: Global,
-    terms: &[u64],
-) -> Result<Option<Equation>, Memory>
+fn first_equation(bank: &mut Bank, alloc: Global, terms: &[u64]) -> Result<Option<Equation>, Memory>
     requires below { AreBelow (length bank.old) terms.now }
     requires closed { AllClosed (picked bank.old terms.now) }
     ensures extends { Extends bank.old bank.new }
@@ -112,10 +108,10 @@ fn rewritten_at(
 {
     let _count = bank.count();
     let item = entry(parts, i);
-    if !item.live {
-        return Ok(None);
+    if item.live {
+        return rewritten(bank, alloc, i, item.formula);
     }
-    rewritten(bank, alloc, i, item.formula)
+    Ok(None)
 }
 
 /// Rank rewrite, where it fits none of the oldest `start` entries: of the oldest live entry that it fits, the first closed subterm
@@ -135,6 +131,8 @@ pub fn rewrite_from(
     ensures answer { IfOk result (IsAnswer bank.new (shown parts.now).now
         (oldest rewrite 0 (branch_of bank.new (shown parts.now).now))) }
     ensures closed { IfOk result (AddsClosed bank.new) }
+    ensures position { IfOk result (λ o. NoneBefore rewrite
+        (place_of o (length (shown parts.now).now)) (branch_of bank.new (shown parts.now).now)) }
 {
     let _count = bank.count();
     for i in start..length(parts) {
@@ -147,11 +145,7 @@ pub fn rewrite_from(
 }
 
 /// Rank rewrite.
-pub fn rewrite_rank(
-    bank: &mut Bank,
-    alloc: Global,
-    parts: &Parts,
-) -> Result<Option<Found>, Memory>
+pub fn rewrite_rank(bank: &mut Bank, alloc: Global, parts: &Parts) -> Result<Option<Found>, Memory>
     requires held { Holds parts.now }
     requires known { AreKnown (length bank.old) (shown parts.now).now }
     requires closed { AreClosed bank.old (shown parts.now).now }
@@ -160,6 +154,8 @@ pub fn rewrite_rank(
     ensures answer { IfOk result (IsAnswer bank.new (shown parts.now).now
         (oldest rewrite 0 (branch_of bank.new (shown parts.now).now))) }
     ensures closed { IfOk result (AddsClosed bank.new) }
+    ensures position { IfOk result (λ o. NoneBefore rewrite
+        (place_of o (length (shown parts.now).now)) (branch_of bank.new (shown parts.now).now)) }
 {
     rewrite_from(bank, alloc, parts, 0)
 }

@@ -1,5 +1,5 @@
 -- Taking formulas apart into signed atoms.
-use Rattle.std.proofs.Common.{◌≡◌, ℕ, suc, ◌+◌, ◌*◌, ◌<◌, Bool, true, false, nat_eq, nat_le, Option, Some, None, List, [], ◌∷◌, length, refl, ap, sym, ◌∙◌, arith, subst}
+use Rattle.std.proofs.Common.{◌≡◌, ℕ, suc, ◌+◌, ◌*◌, Bool, true, false, nat_eq, nat_le, Option, Some, None, List, [], ◌∷◌, length, refl, ap, sym, ◌∙◌, arith, subst}
 use Rattle.std.proofs.lemmas.Bool.Decides.{nat_tests}
 use Rattle.core_expr.specs.declared.head.Sym.{Sym}
 use Rattle.core_expr.specs.declared.row.RowKind.{RowKind}
@@ -12,21 +12,20 @@ use Rattle.core_expr.specs.Heads.{make_kind}
 use Rattle.core_expr.specs.Nodes.{Node, canon_sym, node_kind, picked}
 use Rattle.search_definition.specs.Terms.{if_so, when, after}
 use Rattle.search_definition.specs.Plain.{Left, left_side}
-use Rattle.search_definition.specs.Instances.{Signed, has_no_parts, is_kept_filter, low_right, taken_apart, atoms, atom_or, mapped}
+use Rattle.search_definition.specs.Instances.{has_no_parts, is_kept_filter, low_right, taken_apart, atoms, atom_or, mapped}
 use Rattle.search_definition.proofs.Lefts.{LeftScoped, left_side-scoped, put_scoped}
 use Rattle.formula_rules.specs.Answers.{HasTerm}
 use Rattle.term_shapes.specs.declared.shape.Shape.{Shape}
 use Rattle.term_shapes.specs.declared.shape.Shape.TheVariants as shape
 use Rattle.term_shapes.specs.Shapes.{HasShape}
-use Rattle.term_bank.specs.Banks.{Extends, HasNode, HasTree, tree_at}
+use Rattle.term_bank.specs.Banks.{HasNode, HasTree, tree_at}
 use Rattle.term_bank.proofs.TableLaws.{fits-picked, length-picked}
-use Rattle.term_bank.proofs.InstLaws.{same_tree}
-use Rattle.term_walks.proofs.TreeLaws.{shape-node} 
+use Rattle.term_walks.proofs.TreeLaws.{shape-node}
 use Rattle.term_walks.proofs.TreeLaws as walk
 use Rattle.instance_terms.specs.declared.expand.Part.{Part}
-use Rattle.instance_terms.specs.declared.expand.Expansion.TheVariants.{Nothing, Atom, One, Two, Four}
+use Rattle.instance_terms.specs.declared.expand.Expansion.TheVariants.{One}
 use Rattle.instance_terms.specs.Fresh.{meta_from}
-use Rattle.instance_terms.specs.Atoms.{IsPart, part_of, expanded, HasParts, IsOpened, IsAtomStep, IsExpansion}
+use Rattle.instance_terms.specs.Atoms.{part_of, IsOpened, IsAtomStep, IsExpansion}
 
 -- a single node
 made-alone : (k : RowKind) (ns : List ℕ) (ss : List Tree) → walk.HasShape k (length ss) → nat_eq (length ss) 0 ≡ has_no_parts (make_kind k ns ss)

@@ -2,3 +2,4 @@ pub mod MetaLaws
 pub mod TermLaws
 pub mod AtomLaws
 pub mod TaskLaws
+pub mod SideLaws

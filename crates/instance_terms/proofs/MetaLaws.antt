@@ -4,11 +4,8 @@ use Rattle.core_expr.specs.declared.head.Sym.{Sym}
 use Rattle.core_expr.specs.Nodes.{canon_sym}
 use Rattle.search_definition.specs.Instances.{Fresh, own_meta, partner_meta, first_metas}
 use Rattle.unify_meta.specs.Metas.{symbols}
+use Rattle.unify_meta.proofs.MetaLaws.{symbols-append}
 use Rattle.instance_terms.specs.Fresh.{meta_from, both_of}
-
-symbols-push : (xs : List ℕ) (x : ℕ) → symbols (xs ++ x ∷ []) ≡ symbols xs ++ canon_sym x 0 ∷ []
-symbols-push [] x = refl
-symbols-push (y ∷ xs) x = ap (λ fs. canon_sym y 0 ∷ fs) (symbols-push xs x)
 
 first-same : (f g : ℕ → Sym) (n : ℕ) → ((i : ℕ) → f i ≡ g i) → first_metas f n ≡ first_metas g n
 first-same f g zero h = refl
@@ -18,7 +15,7 @@ first-same f g (suc n) h = λ i. h n i ∷ first-same f g n h i
 pub meta_next : (first left lower number : ℕ) (old new : List ℕ) (all : List Sym) → left ≡ suc lower → number ≡ first + 2 * lower → new ≡ old ++ number ∷ [] → symbols old ++ first_metas (meta_from first) left ≡ all → symbols new ++ first_metas (meta_from first) lower ≡ all
 meta_next first left lower number old new all el en e h =
     ap (λ xs. symbols xs ++ first_metas (meta_from first) lower) (e ∙ ap (λ x. old ++ x ∷ []) en)
-    ∙ ap (λ fs. fs ++ first_metas (meta_from first) lower) (symbols-push old (first + 2 * lower))
+    ∙ ap (λ fs. fs ++ first_metas (meta_from first) lower) (symbols-append old ((first + 2 * lower) ∷ []))
     ∙ append_assoc (symbols old) (canon_sym (first + 2 * lower) 0 ∷ []) (first_metas (meta_from first) lower)
     ∙ ap (λ n. symbols old ++ first_metas (meta_from first) n) (sym el) ∙ h
 

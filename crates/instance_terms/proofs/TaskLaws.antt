@@ -1,5 +1,5 @@
 -- The walk that takes a universal apart into signed atoms.
-use Rattle.std.proofs.Common.{◌≡◌, ℕ, zero, suc, ◌+◌, ◌-◌, ◌*◌, ◌^◌, ◌<◌, ◌≤◌, Bool, List, [], ◌∷◌, ◌++◌, length, refl, ap, sym, ◌∙◌, arith, subst, append-nil, append_assoc}
+use Rattle.std.proofs.Common.{◌≡◌, ℕ, suc, ◌+◌, ◌-◌, ◌*◌, ◌^◌, ◌<◌, ◌≤◌, List, [], ◌∷◌, ◌++◌, length, refl, ap, sym, ◌∙◌, arith, subst, append-nil, append_assoc}
 use Rattle.core_expr.specs.declared.head.Sym.{Sym}
 use Rattle.core_expr.specs.Tree.{Tree}
 use Rattle.core_expr.specs.Tree.Tree.{app}
@@ -7,7 +7,7 @@ use Rattle.core_expr.specs.Tree.Parts.{end}
 use Rattle.core_expr.specs.Put.{IsScoped, inst}
 use Rattle.core_expr.specs.Terms.{nodes}
 use Rattle.core_expr.specs.Nodes.{canon_sym}
-use Rattle.search_definition.specs.Instances.{Signed, Universal, atoms, signed_atoms}
+use Rattle.search_definition.specs.Instances.{Universal, atoms, signed_atoms}
 use Rattle.search_definition.specs.Laws.{AtomsHaveRoom}
 use Rattle.search_definition.proofs.Lefts.{put_scoped}
 use Rattle.formula_rules.specs.declared.quantified.Quantified.{Quantified}
@@ -20,7 +20,7 @@ use Rattle.instance_terms.specs.declared.expand.Expansion.{Expansion}
 use Rattle.instance_terms.specs.declared.expand.Expansion.TheVariants.{Nothing, Atom, One, Two, Four}
 use Rattle.instance_terms.specs.declared.atoms.Task.{Task}
 use Rattle.instance_terms.specs.Fresh.{meta_from, signed_of}
-use Rattle.instance_terms.specs.Atoms.{IsPart, part_atoms, expanded, HasParts, IsExpansion}
+use Rattle.instance_terms.specs.Atoms.{IsPart, part_atoms, expanded, HasParts}
 use Rattle.instance_terms.specs.Tasks.{task_of, tasks_pushed, atoms_noted, signeds, AtomsBelow, IsTurn, to_do, AreTasks, room_for, IsListing}
 
 to_do-push : (ts : List Tree) (name : ℕ → Sym) (room : ℕ) (stack : List Task) (t : Task) → to_do ts name room (stack ++ t ∷ []) ≡ part_atoms ts name (room - t.steps) t.part ++ to_do ts name room stack

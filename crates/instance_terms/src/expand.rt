@@ -34,7 +34,7 @@ pub enum Expansion {
 }
 
 /// Whether the term is a single node.
-fn has_no_parts(bank: &Bank, t: u64) -> bool
+pub fn has_no_parts(bank: &Bank, t: u64) -> bool
     requires { t < length bank.now }
     ensures { result ≡ has_no_parts (tree_at bank.now t) }
 {

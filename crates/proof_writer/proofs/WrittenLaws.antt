@@ -250,3 +250,6 @@ empty_opens w e = ap (λ (l : List ℕ). proofs_on (proofs_of w.trees w.steps) l
 pub discarded : (v w : Written) (p : ℕ) → v ≡ with_unused w (p ∷ []) → opens w ≡ rest_of (opens v)
 unfolding opens
 discarded v w p e = sym (ap (λ (y : Written). rest_of (proofs_on (proofs_of y.trees y.steps) y.unused)) e)
+
+pub open_count : (v : Written) (ts : List Tree) (ss : List ProofStep) (os : List ℕ) → seen_of ts ss os ≡ v → length os ≡ length (opens v)
+open_count v ts ss os e = sym (opens_length v ∙ ap (λ (w : Written). length w.unused) (sym e) ∙ backwards_length [] os (length os) (omega arith))

@@ -124,6 +124,13 @@ impl Writer {
         Ok(())
     }
 
+    /// How many proofs are open.
+    pub fn depth(&self) -> u64
+        ensures { result ≡ length (opens self.now) }
+    {
+        self.fields.unused.len() as u64
+    }
+
     /// The expressions.
     pub fn bank(&self) -> &Bank
         ensures { result.now ≡ self.now.trees }

@@ -17,7 +17,7 @@ use Rattle.formula_rules.specs.declared.given.Given.{Given}
 use Rattle.formula_rules.specs.Answers.{HasAnswer, GivenBelow, step_of}
 use Rattle.rank_rules.specs.Ranked.{rule_of, rank_of, entry_of, branch_of, AreKnown, FitsAt}
 use Rattle.rank_rules.specs.declared.entry_rank.EntryRank.{EntryRank}
-use Rattle.rank_rules.specs.declared.entry_rank.EntryRank.TheVariants.{Plain, Choice, Split, Extension}
+use Rattle.rank_rules.specs.declared.entry_rank.EntryRank.TheVariants.{Plain, Derive, Choice, Split, Extension}
 use Rattle.search_definition.specs.Instances.{Fresh}
 use Rattle.search_definition.specs.Search.{by_rank}
 
@@ -99,6 +99,7 @@ position_kept rule ts ts' es i x k n = subst (λ b. NoneBefore (rule b) i b) (sy
 -- the definition's rank is the oldest entry that its rule fits
 pub ranked : (r : EntryRank) (w : Fresh) (b : Branch) → by_rank w b (rank_of r) ≡ oldest (rule_of r b) 0 b
 ranked Plain w b = refl
+ranked Derive w b = refl
 ranked Choice w b = refl
 ranked Split w b = refl
 ranked Extension w b = refl

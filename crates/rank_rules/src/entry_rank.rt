@@ -6,6 +6,7 @@ ghost use Rattle.branch_state.specs.Parts.{Holds, shown};
 ghost use Rattle.formula_rules.specs.Answers.{HasAnswer};
 ghost use Rattle.rank_rules.specs.Ranked.{rule_of, branch_of, AreKnown};
 
+use crate::derivation::derive;
 use branch_state::Parts;
 use core_expr::Memory;
 use formula_rules::{Given, choice, extension, plain, split};
@@ -16,6 +17,7 @@ use term_bank::Bank;
 #[derive(Clone, Copy, Debug)]
 pub enum EntryRank {
     Plain,
+    Derive,
     Choice,
     Split,
     Extension,
@@ -40,6 +42,7 @@ pub fn answer(
 {
     match rank {
         EntryRank::Plain => plain(bank, alloc, f),
+        EntryRank::Derive => derive(bank, alloc, parts, f),
         EntryRank::Choice => choice(bank, alloc, f),
         EntryRank::Split => split(bank, alloc, f),
         EntryRank::Extension => extension(bank, alloc, f),

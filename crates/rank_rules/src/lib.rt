@@ -5,10 +5,12 @@
 //! before which none fits, and tells such a position for the next time.
 #![tactic(auto)]
 
+mod derivation;
 mod entry_rank;
 mod oldest_entry;
 mod standing;
 
+pub use derivation::derive;
 pub use entry_rank::{EntryRank, answer};
 pub use oldest_entry::{Fitting, oldest};
 pub use standing::stands;

@@ -1,6 +1,4 @@
-pub mod Numbers
-pub mod Lefts
-pub mod Scopes
-pub mod Values
-pub mod Shown
-pub mod Showing
+pub mod Marked
+pub mod Newly
+pub mod Stepped
+pub mod Taken

@@ -1,4 +1,4 @@
-pub mod Cases
-pub mod Lefts
-pub mod Values
-pub mod Shown
+pub mod Marks
+pub mod News
+pub mod States
+pub mod Sides

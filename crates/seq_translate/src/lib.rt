@@ -1,14 +1,10 @@
 //! From the steps of a search that ended closed to a flat sequent proof.
 #![tactic(auto)]
 
-mod choice;
-mod closing;
-mod equated;
-mod left;
-mod plain;
-mod sets;
-mod shapes;
-mod show;
+mod fill;
+mod marks;
+mod news;
+mod rules;
 mod split;
-mod tasks;
-mod value;
+mod state;
+mod turn;

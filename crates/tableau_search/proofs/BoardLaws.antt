@@ -3,6 +3,7 @@ use Rattle.std.proofs.Common.{◌≡◌, ℕ, ◌+◌, ◌<◌, false, List, [],
 use Rattle.std.specs.Prelude.{None}
 use Rattle.std.proofs.lemmas.List.{get_or_append_left, get_or_push, length_push, get_or-take, length-take-le}
 use Rattle.core_expr.specs.Tree.{Tree}
+use Rattle.seq_calculus.specs.Calculus.{AllClosed}
 use Rattle.term_bank.specs.Banks.{tree_at, IsDistinct, Extends}
 use Rattle.search_definition.specs.Branches.{add_all, news}
 use Rattle.search_definition.specs.Rules.{Result, stays, stays_second, rises}
@@ -29,9 +30,11 @@ use Rattle.branch_state.specs.Shown.{Placed, Shown, item_of, with_all, used_at, 
 use Rattle.tableau_search.specs.declared.finder.Closing.{Closing as Shutting}
 use Rattle.tableau_search.specs.declared.finder.Found.TheVariants.{Alone, Splits}
 use Rattle.tableau_search.specs.declared.finder.Decision.TheVariants.{Stuck, Closes, Applies}
-use Rattle.tableau_search.specs.Entries.{branch_of, branch_by, needs_in, tracked, new_trees, AreKnown, NewsUnder, ItemsUnder, needs_of_all}
+use Rattle.tableau_search.specs.Entries.{branch_of, branch_by, needs_in, tracked, new_trees, AreKnown, AreClosed, NewsUnder, ItemsUnder, needs_of_all}
 use Rattle.tableau_search.specs.Found.{closing_of, Decided}
 use Rattle.tableau_search.specs.Boards.{IsBoard, state_of, used_alone, used_both, second_used, added_by, NotesShut, NotesAlone, NotesSplit, Turns, ReopensBoard, IsEnd}
+use Rattle.tableau_search.proofs.ClosedLaws.{closed_all, closed_used, closed_kept, each_closed_kept, each_closed_push, each_closed_at, each_closed_take, sides_closed}
+use Rattle.tableau_search.proofs.SplitLaws.{split_rule}
 use Rattle.tableau_search.proofs.LiftLaws.{lift_needs, lift_side, lift_all, lift_news, lift_lacking, lift_added, known_all, known_used, known_higher, each_push, each_at, each_take, each_higher, added_under, used_twice, extends_length, branch_kept}
 use Rattle.tableau_search.proofs.TurnLaws.{moves_kept, moves_push, turns_push, turns_higher, resumed_under, resumed_moves}
 
@@ -52,6 +55,8 @@ board_kept ts us s turns g d b =
       known = known_higher (length ts) (length us) s.now l b.known;
       waits = each_higher (length ts) (length us) s.waits l b.waits;
       under = turns_higher (length ts) (length us) turns l b.under;
+      closed = closed_kept ts us s.now g b.known b.closed;
+      waits_closed = each_closed_kept ts us s.waits g b.waits b.waits_closed;
     }
 
 -- no rule fits
@@ -72,7 +77,7 @@ shuts w n us s old new c v b d e f m = (
     ),
     (omega arith, λ i l. refl, refl),
   ),
-  record { distinct = b.distinct; known = b.known; waits = b.waits; under = subst (λ xs. TurnsUnder (length us) xs) (sym m) (turns_push (length us) old (Shut c.clash c.entries None) b.under d.1) },
+  record { distinct = b.distinct; known = b.known; waits = b.waits; under = subst (λ xs. TurnsUnder (length us) xs) (sym m) (turns_push (length us) old (Shut c.clash c.entries None) b.under d.1); closed = b.closed; waits_closed = b.waits_closed },
 )
 
 -- what is noted of what is added
@@ -118,13 +123,15 @@ goes w n us s old new u ns b (c, (f, i, j)) (v, e, m) = (((r, fs, c, f, refl, no
           known = known_all (length us) (needs_of_all s.now u.named.items) (used_at (stays u.rule) (rises u.rule) s.now u.entry) ns.items (known_used (length us) (stays u.rule) (rises u.rule) s.now u.entry b.known) j.under;
           waits = b.waits;
           under = subst (λ xs. TurnsUnder (length us) xs) (sym m) (turns_push (length us) old (One u v) b.under (i.under, noted_under (length us) s.now ns.items v j.under e));
+          closed = closed_all us (needs_of_all s.now u.named.items) (used_at (stays u.rule) (rises u.rule) s.now u.entry) ns.items (closed_used us (stays u.rule) (rises u.rule) s.now u.entry b.closed) (sides_closed w us s.now r b.closed f);
+          waits_closed = b.waits_closed;
         }
 
 -- a rule with two sides
 pub forks : (w : Fresh) (n : ℕ) (us : List Tree) (s : Shown) (old new : List Turn) (u : Used) (ns ms : Vec New Global) → IsBoard us s old → Decided w us s.now (Applies (Splits u ns ms)) → NotesSplit s.now u ns.items ms.items old new
     → Turns n (state_of w us s old) (state_of w us (used_both s u ns.items ms.items (union (n ∷ []) (needs_of_all s.now u.named.items))) new) (Forks (length s.waits))
     × IsBoard us (used_both s u ns.items ms.items (union (n ∷ []) (needs_of_all s.now u.named.items))) new
-forks w n us s old new u ns ms b (c, (f, i, j, k, o)) (v, z, e, g, m) =
+forks w n us s old new u ns ms b (c, (f, i, j, k)) (v, z, e, g, m) =
     (((r, new_trees us ns.items, new_trees us ms.items, c, f, refl, first, second, omega arith, omega (arith, count), steps), (omega (arith, count), stay, refl)), board)
   where
     r : Result
@@ -140,7 +147,7 @@ forks w n us s old new u ns ms b (c, (f, i, j, k, o)) (v, z, e, g, m) =
     needed = ap (λ x. union (n ∷ []) x) (sym (lift_needs us b.distinct s.now u.named.items b.known i.under.0))
 
     twice : used_at (stays u.rule) false (second_used s u) u.entry ≡ used_at (stays u.rule) (rises u.rule) s.now u.entry
-    twice = used_twice (stays u.rule) (stays_second u.rule) (rises u.rule) s.now u.entry o
+    twice = used_twice (stays u.rule) (stays_second u.rule) (rises u.rule) s.now u.entry (split_rule w us s.now r (new_trees us ns.items) (new_trees us ms.items) b.closed f refl)
 
     first : tracked us (with_all ks (used_at (stays u.rule) false (second_used s u) u.entry) ns.items) ≡ side_of (stays u.rule) r (needs_by n r (tracked us s.now)) (tracked us s.now) (new_trees us ns.items)
     first =
@@ -171,6 +178,12 @@ forks w n us s old new u ns ms b (c, (f, i, j, k, o)) (v, z, e, g, m) =
     used : AreKnown (length us) (second_used s u)
     used = known_used (length us) (stays_second u.rule) (rises u.rule) s.now u.entry b.known
 
+    used_closed : AreClosed us (second_used s u)
+    used_closed = closed_used us (stays_second u.rule) (rises u.rule) s.now u.entry b.closed
+
+    sides : AllClosed (new_trees us ns.items) × AllClosed (new_trees us ms.items)
+    sides = sides_closed w us s.now r b.closed f
+
     board : IsBoard us (used_both s u ns.items ms.items ks) new
     board =
         record {
@@ -178,6 +191,8 @@ forks w n us s old new u ns ms b (c, (f, i, j, k, o)) (v, z, e, g, m) =
           known = known_all (length us) ks (used_at (stays u.rule) false (second_used s u) u.entry) ns.items (known_used (length us) (stays u.rule) false (second_used s u) u.entry used) j.under;
           waits = each_push (length us) s.waits side b.waits (known_all (length us) ks (second_used s u) ms.items used k.under);
           under = subst (λ xs. TurnsUnder (length us) xs) (sym m) (turns_push (length us) old (Split u v z) b.under (i.under, noted_under (length us) s.now ns.items v j.under e, noted_under (length us) s.now ms.items z k.under g));
+          closed = closed_all us ks (used_at (stays u.rule) false (second_used s u) u.entry) ns.items (closed_used us (stays u.rule) false (second_used s u) u.entry used_closed) sides.0;
+          waits_closed = each_closed_push us s.waits side b.waits_closed (closed_all us ks (second_used s u) ms.items used_closed sides.1);
         }
 
 -- the branch that waits at k is worked on
@@ -198,7 +213,7 @@ reopens w k n us s old t new b l ((m, e), h) = subst (λ z. Back w k n us s old 
 
     board : IsBoard us (reopened s k m) new
     board =
-        record { distinct = b.distinct; known = each_at (length us) s.waits k b.waits; waits = each_take (length us) s.waits k b.waits; under = resumed_under (length us) n old new h b.under }
+        record { distinct = b.distinct; known = each_at (length us) s.waits k b.waits; waits = each_take (length us) s.waits k b.waits; under = resumed_under (length us) n old new h b.under; closed = each_closed_at us s.waits k b.waits_closed; waits_closed = each_closed_take us s.waits k b.waits_closed }
 
 -- the same before formulas came
 pub from_kept : (w w2 : Fresh) (n : ℕ) (ts us : List Tree) (s s2 : Shown) (old new : List Turn) (t : Turned) → Extends ts us → IsBoard ts s old → w2 ≡ w → Turns n (state_of w us s old) (state_of w us s2 new) t → Turns n (state_of w ts s old) (state_of w2 us s2 new) t
@@ -206,10 +221,11 @@ from_kept w w2 n ts us s s2 old new t g b e h = subst (λ v. Turns n (state_of w
 
 -- the start
 
-pub board_start : (ts : List Tree) (s : Shown) (turns : List Turn) (ms : List New) → IsDistinct ts → NewsUnder (length ts) ms → s ≡ record { now = with_all [] [] ms; waits = []; sets = [] ∷ [] } → turns ≡ [] → IsBoard ts s turns
-board_start ts s turns ms d k e f =
+pub board_start : (ts : List Tree) (s : Shown) (turns : List Turn) (ms : List New) → IsDistinct ts → NewsUnder (length ts) ms → AllClosed (new_trees ts ms) → s ≡ record { now = with_all [] [] ms; waits = []; sets = [] ∷ [] } → turns ≡ []
+    → IsBoard ts s turns
+board_start ts s turns ms d k h e f =
     subst (λ xs. IsBoard ts s xs) (sym f)
-    (subst (λ z. IsBoard ts z []) (sym e) (record { distinct = d; known = known_all (length ts) [] [] ms tt k; waits = tt; under = tt }))
+    (subst (λ z. IsBoard ts z []) (sym e) (record { distinct = d; known = known_all (length ts) [] [] ms tt k; waits = tt; under = tt; closed = closed_all ts [] [] ms tt h; waits_closed = tt }))
 
 -- the state's branch as the only open one is what the search starts with
 pub state_start : (w : Fresh) (ts : List Tree) (s : Shown) (turns : List Turn) (ms : List New) (facts : List Tree) (goal : Tree) → IsDistinct ts → NewsUnder (length ts) ms → s ≡ record { now = with_all [] [] ms; waits = []; sets = [] ∷ [] }

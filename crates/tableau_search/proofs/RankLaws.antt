@@ -36,8 +36,8 @@ found_at : (f : Rank → Option Result) (xs : List Rank) (i : ℕ) (d : Rank) �
     → IsFound ts es (first_some f xs) a
 found_at f xs i d l h ts es (Alone u ns) (e, g, k) =
     (h ∙ ap (first_some f) (drop_more xs i d l) ∙ ap (λ o. or_else o (first_some f (drop (i + 1) xs))) e, g, k)
-found_at f xs i d l h ts es (Splits u ns ms) (e, g, k, m, n) =
-    (h ∙ ap (first_some f) (drop_more xs i d l) ∙ ap (λ o. or_else o (first_some f (drop (i + 1) xs))) e, g, k, m, n)
+found_at f xs i d l h ts es (Splits u ns ms) (e, g, k, m) =
+    (h ∙ ap (first_some f) (drop_more xs i d l) ∙ ap (λ o. or_else o (first_some f (drop (i + 1) xs))) e, g, k, m)
 
 pub rank_some : (w w2 : Fresh) (b c : Branch) (xs : List Rank) (i : ℕ) (d : Rank) → i < length xs → w ≡ w2 → b ≡ c → first_some (by_rank w2 c) xs ≡ first_some (by_rank w2 c) (drop i xs) → (ts : List Tree) (es : List Placed) (a : Found)
     → IsFound ts es (by_rank w b (get_or xs i d)) a → IsFound ts es (first_some (by_rank w2 b) xs) a

@@ -20,14 +20,16 @@ use Rattle.branch_book.specs.declared.item.Item.{Item}
 use Rattle.branch_state.specs.declared.parts.New.{New}
 use Rattle.branch_state.specs.Shown.{Placed, Shown, stands, with_all, used_at, Reopens}
 use Rattle.tableau_search.specs.declared.finder.Closing.{Closing as Shutting}
-use Rattle.tableau_search.specs.Entries.{tracked, branch_by, AreKnown, EachKnown}
+use Rattle.tableau_search.specs.Entries.{tracked, branch_by, AreKnown, EachKnown, AreClosed, EachClosed}
 
--- The formulas have one number each, and all numbers are known.
+-- The formulas have one number each, all numbers are known, and the formulas on branches are closed.
 pub record IsBoard (ts : List Tree) (s : Shown) (turns : List Turn) : Type 0 where
   pub distinct : IsDistinct ts
   pub known : AreKnown (length ts) s.now
   pub waits : EachKnown (length ts) s.waits
   pub under : TurnsUnder (length ts) turns
+  pub closed : AreClosed ts s.now
+  pub waits_closed : EachClosed ts s.waits
 
 -- as the loop sees it
 abbrev pub state_of : Fresh → List Tree → Shown → List Turn → State

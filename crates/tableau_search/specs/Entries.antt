@@ -1,6 +1,7 @@
 -- Entries by numbers, and the branches that they stand for.
 use Rattle.std.specs.Prelude.{ℕ, ◌<◌, List, [], ◌∷◌, map}
 use Rattle.core_expr.specs.Tree.{Tree}
+use Rattle.seq_calculus.specs.Calculus.{IsClosed}
 use Rattle.term_bank.specs.Banks.{tree_at}
 use Rattle.search_definition.specs.Branches.{Entry, Branch}
 use Rattle.search_definition.specs.Needs.{union}
@@ -46,6 +47,16 @@ AreKnown n (e ∷ es) = (e.formula < n) × AreKnown n es
 abbrev pub EachKnown : ℕ → List (List Placed) → Type 0
 EachKnown n [] = Unit {0}
 EachKnown n (es ∷ ess) = AreKnown n es × EachKnown n ess
+
+-- the formulas are closed
+abbrev pub AreClosed : List Tree → List Placed → Type 0
+AreClosed ts [] = Unit {0}
+AreClosed ts (e ∷ es) = IsClosed (tree_at ts e.formula) × AreClosed ts es
+
+-- those of all these branches are
+abbrev pub EachClosed : List Tree → List (List Placed) → Type 0
+EachClosed ts [] = Unit {0}
+EachClosed ts (es ∷ ess) = AreClosed ts es × EachClosed ts ess
 
 -- the numbers of what is to be added are below n
 abbrev pub NewsUnder : ℕ → List New → Type 0

@@ -2,9 +2,8 @@
 use Rattle.std.specs.Prelude.{◌≡◌, ◌<◌, true, Option, Some, None, List, length, map}
 use Rattle.core_expr.specs.Tree.{Tree}
 use Rattle.term_bank.specs.Banks.{tree_at}
-use Rattle.search_definition.specs.declared.rule.Rule.{Rule}
 use Rattle.search_definition.specs.Branches.{Closing, closing}
-use Rattle.search_definition.specs.Rules.{Result, stays, stays_second}
+use Rattle.search_definition.specs.Rules.{Result}
 use Rattle.search_definition.specs.Rules.Sides.{Alone as One, Both}
 use Rattle.search_definition.specs.Instances.{Fresh}
 use Rattle.search_definition.specs.Search.{first_rule}
@@ -31,15 +30,11 @@ pub record AreUsable (ts : List Tree) (ns : List New) : Type 0 where
   pub under : NewsUnder (length ts) ns
   pub classed : AreClassed ns
 
--- the entry dies on the second side only if it dies on the first
-abbrev pub IsSplitRule : Rule → Type 0
-IsSplitRule r = stays r ≡ true → stays_second r ≡ true
-
 -- what was found is this result
 abbrev pub IsFound : List Tree → List Placed → Option Result → Found → Type 0
 IsFound ts es o (Alone u ns) = (o ≡ Some (result_of ts u (One (new_trees ts ns.items)))) × IsUsable ts es u × AreUsable ts ns.items
 IsFound ts es o (Splits u ns ms) =
-    (o ≡ Some (result_of ts u (Both (new_trees ts ns.items) (new_trees ts ms.items)))) × IsUsable ts es u × AreUsable ts ns.items × AreUsable ts ms.items × IsSplitRule u.rule
+    (o ≡ Some (result_of ts u (Both (new_trees ts ns.items) (new_trees ts ms.items)))) × IsUsable ts es u × AreUsable ts ns.items × AreUsable ts ms.items
 
 -- the answer is this result, where there is one
 abbrev pub IsAnswer : List Tree → List Placed → Option Result → Option Found → Type 0

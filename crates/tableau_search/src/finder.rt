@@ -2,7 +2,7 @@
 ghost use Rattle.std.specs.Prelude.{◌≡◌, length, IfOk, OnOk};
 ghost use Rattle.term_bank.specs.Banks.{IsDistinct, Extends};
 ghost use Rattle.branch_state.specs.Parts.{Holds, shown};
-ghost use Rattle.tableau_search.specs.Entries.{AreKnown};
+ghost use Rattle.tableau_search.specs.Entries.{AreKnown, AreClosed};
 ghost use Rattle.tableau_search.specs.Memos.{Stays};
 ghost use Rattle.tableau_search.specs.Found.{Decided};
 
@@ -43,6 +43,7 @@ pub trait Finder: Memo {
         requires held { Holds parts.now }
         requires distinct { IsDistinct (Self.trees self.old) }
         requires known { AreKnown (length (Self.trees self.old)) (shown parts.now).now }
+        requires closed { AreClosed (Self.trees self.old) (shown parts.now).now }
         requires right { Self.right self.old (shown parts.now).now }
         ensures holds { OnOk result (Self.holds self.new) }
         ensures extends { OnOk result (Extends (Self.trees self.old) (Self.trees self.new)) }

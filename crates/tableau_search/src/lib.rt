@@ -17,7 +17,6 @@ mod ranks;
 mod steps;
 mod turns;
 
-pub use engine::Engine;
 pub use finder::{Closing, Decision, Finder, Found};
 pub use memo::Memo;
 pub use outcome::{Solved, solve};

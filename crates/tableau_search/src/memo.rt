@@ -1,7 +1,8 @@
 //! What is known of formulas and kept of branches.
 ghost use Rattle.std.specs.Prelude.{◌≡◌, ◌<◌, ◌+◌, ℕ, Bool, true, List, length, OnOk};
 ghost use Rattle.core_expr.specs.Tree.{Tree};
-ghost use Rattle.term_bank.specs.Banks.{IsDistinct};
+ghost use Rattle.seq_calculus.specs.Calculus.{IsClosed};
+ghost use Rattle.term_bank.specs.Banks.{IsDistinct, tree_at};
 ghost use Rattle.search_definition.specs.Instances.{Fresh};
 ghost use Rattle.branch_state.specs.declared.parts.New.{New};
 ghost use Rattle.branch_state.specs.Shown.{Placed, placed_at, with_new, used_at};
@@ -57,10 +58,11 @@ pub trait Memo {
         ensures saved { OnOk result (Stays (length (trees self.old)) at
             (saved self.old) (saved self.new)) };
 
-    /// What is kept stays right when a formula is added.
+    /// What is kept stays right when a closed formula is added.
     ghost added: { (x : Self) (es : List Placed) (needs : List ℕ) (n : New)
         → holds x → IsDistinct (trees x) → AreKnown (length (trees x)) es
-        → n.formula < length (trees x) → right x es → right x (with_new needs es n) };
+        → n.formula < length (trees x) → IsClosed (tree_at (trees x) n.formula)
+        → right x es → right x (with_new needs es n) };
 
     /// What is kept stays right when a live entry is used.
     ghost used: { (x : Self) (es : List Placed) (stays rises : Bool) (i : ℕ)

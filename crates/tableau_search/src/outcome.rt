@@ -1,6 +1,7 @@
 //! The search on an obligation.
 ghost use Rattle.std.specs.Prelude.{◌≡◌, ◌<◌, List, [], ◌∷◌, length, map, IfOk, OnOk};
 ghost use Rattle.core_expr.specs.Tree.{Tree};
+ghost use Rattle.seq_calculus.specs.Calculus.{AllClosed};
 ghost use Rattle.term_bank.specs.Banks.{IsDistinct, Extends};
 ghost use Rattle.search_definition.specs.Search.{fresh, denied, search as written, steps};
 ghost use Rattle.search_trace.specs.Traces.{moves_of, TurnsUnder};
@@ -67,6 +68,7 @@ pub fn solve<F: Finder + Drop>(
     requires distinct { IsDistinct (F.trees finder) }
     requires known { NewsUnder (length (F.trees finder)) formulas.now }
     requires classed { AreClassed formulas.now }
+    requires closed { AllClosed (new_trees (F.trees finder) formulas.now) }
     requires right { F.right finder [] }
     requires count { F.count finder ≡ 0 }
     ensures holds { IfOk result (λ s. F.holds s.finder) }

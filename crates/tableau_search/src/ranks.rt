@@ -5,7 +5,7 @@ ghost use Rattle.search_definition.specs.Terms.{first_some};
 ghost use Rattle.search_definition.specs.Branches.{closing};
 ghost use Rattle.search_definition.specs.Search.{by_rank};
 ghost use Rattle.branch_state.specs.Parts.{Holds, shown};
-ghost use Rattle.tableau_search.specs.Entries.{AreKnown, branch_of};
+ghost use Rattle.tableau_search.specs.Entries.{AreKnown, AreClosed, branch_of};
 ghost use Rattle.tableau_search.specs.Memos.{Stays};
 ghost use Rattle.tableau_search.specs.Found.{Decided, IsAnswer, IsClosing};
 
@@ -24,6 +24,7 @@ pub trait Ranks: Memo {
         requires held { Holds parts.now }
         requires distinct { IsDistinct (Self.trees self.old) }
         requires known { AreKnown (length (Self.trees self.old)) (shown parts.now).now }
+        requires closed { AreClosed (Self.trees self.old) (shown parts.now).now }
         requires right { Self.right self.old (shown parts.now).now }
         ensures holds { OnOk result (Self.holds self.new) }
         ensures extends { OnOk result (Extends (Self.trees self.old) (Self.trees self.new)) }
@@ -42,6 +43,7 @@ pub trait Ranks: Memo {
         requires held { Holds parts.now }
         requires distinct { IsDistinct (Self.trees self.old) }
         requires known { AreKnown (length (Self.trees self.old)) (shown parts.now).now }
+        requires closed { AreClosed (Self.trees self.old) (shown parts.now).now }
         requires right { Self.right self.old (shown parts.now).now }
         requires open { closing (branch_of (Self.trees self.old) (shown parts.now).now) ≡ None }
         ensures holds { OnOk result (Self.holds self.new) }
@@ -83,6 +85,7 @@ fn first_of<R: Ranks>(
     requires holds { R.holds ranks.old }
     requires held { Holds parts.now }
     requires known { AreKnown (length (R.trees ranks.old)) (shown parts.now).now }
+    requires closed { AreClosed (R.trees ranks.old) (shown parts.now).now }
     requires distinct { IsDistinct (R.trees ranks.old) }
     requires right { R.right ranks.old (shown parts.now).now }
     requires open { closing (branch_of (R.trees ranks.old) (shown parts.now).now) ≡ None }
@@ -113,6 +116,7 @@ fn decide<R: Ranks>(alloc: Global, ranks: &mut R, parts: &Parts) -> Result<Decis
     requires held { Holds parts.now }
     requires distinct { IsDistinct (R.trees ranks.old) }
     requires known { AreKnown (length (R.trees ranks.old)) (shown parts.now).now }
+    requires closed { AreClosed (R.trees ranks.old) (shown parts.now).now }
     requires right { R.right ranks.old (shown parts.now).now }
     ensures holds { OnOk result (R.holds ranks.new) }
     ensures extends { OnOk result (Extends (R.trees ranks.old) (R.trees ranks.new)) }

@@ -1,8 +1,7 @@
 -- Prefix codes by the parts of a node.
-use Rattle.std.proofs.Common.{◌≡◌, ℕ, zero, suc, ◌<◌, min, Bool, true, false, cond, nat_eq, nat_lt, Option, Some, None, List, [], ◌∷◌, ◌++◌, length, get_or, refl, ap, sym, ◌∙◌, arith, subst, append_assoc}
+use Rattle.std.proofs.Common.{◌≡◌, ℕ, zero, suc, ◌<◌, min, Bool, true, false, cond, nat_eq, nat_lt, Option, Some, None, List, [], ◌∷◌, ◌++◌, length, get_or, refl, ap, sym, ◌∙◌, arith, append_assoc}
 use Rattle.std.specs.Prelude.{IsSome}
 use Rattle.std.proofs.lemmas.Bool.{and_parts, eqb-true}
-use Rattle.std.proofs.lemmas.Bool.Decides.{nat_tests}
 use Rattle.core_expr.specs.declared.head.Head.{Head}
 use Rattle.core_expr.specs.declared.head.Head.TheVariants.{Num, Str, Enum, Tuple}
 use Rattle.core_expr.specs.declared.row.RowKind.{RowKind}
@@ -12,16 +11,16 @@ use Rattle.core_expr.specs.Tree.Tree.{bound, app, node, bind}
 use Rattle.core_expr.specs.Tree.Parts.{end, part}
 use Rattle.core_expr.specs.Terms.{head_code, binder_code, numbers_of, code, codes, list_less, less, nodes}
 use Rattle.core_expr.specs.Heads.{kind_at, kind_number, kind_symbol, make_kind, parts_of, front, back, kept_numbers, table_numbers, plain_fits, binder_arity, first, after_first, is_empty, is_only, is_text, are_bytes, head_arity}
-use Rattle.core_expr.specs.Nodes.{Node, AreBelow, canon_sym, node_kind, node_fits, numbers_fit, picked}
+use Rattle.core_expr.specs.Nodes.{Node, canon_sym, node_kind, node_fits, numbers_fit, picked}
 use Rattle.core_expr.proofs.Equal.{nat-same, nat-refl}
 use Rattle.core_expr.proofs.NodeLaws.{node_numbers_fit, node_below, kind_number-node}
 use Rattle.core_expr.proofs.Shown.{kind_at-symbol}
 use Rattle.core_expr.proofs.BuildLaws.{no_numbers, one_number, table-kept, size-parts_of}
 use Rattle.term_bank.specs.Banks.{IsDistinct, HasNode, tree_at}
-use Rattle.term_bank.proofs.TableLaws.{fits-picked, AreBelow-at, length-picked}
+use Rattle.term_bank.proofs.TableLaws.{fits-picked, length-picked}
 use Rattle.term_walks.specs.Places.{AgreeBefore, IsPlace}
 use Rattle.term_walks.proofs.TreeLaws.{HasShape, shape-node}
-use Rattle.term_walks.proofs.PlaceLaws.{parts_same, kind-count}
+use Rattle.term_walks.proofs.PlaceLaws.{parts_same, kind-count, two_numbers, only-kept}
 use Rattle.term_order.specs.Codes.{IsLess, ComparesAs}
 
 abbrev select : {A : Type 0} → Bool → A → A → A
@@ -41,10 +40,6 @@ codes-split [] l h = absurd (omega arith)
 codes-split (t ∷ []) l h = refl
 codes-split (t ∷ u ∷ ts) l h = ap (code t) (codes-split (u ∷ ts) l (omega arith))
 
-only-kept : (k : ℕ) (ns : List ℕ) → is_only k ns ≡ true → after_first ns ≡ []
-only-kept k [] w = refl
-only-kept k (n ∷ ns) w = no_numbers ns (and_parts (nat_eq n k) (is_empty ns) w).1
-
 -- the numbers of a node in its code are those of the table
 numbers-table : (h : Head) (ns : List ℕ) (ts : List Tree) → plain_fits h ns (length ts) ≡ true → numbers_of h (kept_numbers h ns) (parts_of ts) ≡ ns
 numbers-table h ns ts w = go h w ∙ table-kept h ns (length ts) w
@@ -54,15 +49,6 @@ numbers-table h ns ts w = go h w ∙ table-kept h ns (length ts) w
     go Tuple w = λ i. size-parts_of ts i ∷ sym (only-kept (length ts) ns w) i
     go Str w = refl
     go _ w = refl
-
-two_numbers : (ns : List ℕ) → nat_eq (length ns) 2 ≡ true → first ns ∷ first (after_first ns) ∷ [] ≡ ns
-two_numbers [] w = cc
-two_numbers (n ∷ []) w = cc
-two_numbers (n ∷ a ∷ []) w = refl
-two_numbers (n ∷ a ∷ m ∷ ns) w = absurd (no (length ns) w)
-  where
-    no : (k : ℕ) → nat_eq (suc (suc (suc k))) 2 ≡ true → ⊥
-    no k w = grind (arith, nat_tests)
 
 -- a kind that tells its numbers
 abbrev Tells : RowKind → List ℕ → Type 0
@@ -256,6 +242,3 @@ less-codes s t a b x ea eb e h =
 pub place_some : (xs ys : List ℕ) (o : Option ℕ) → IsPlace xs ys o → (IsPlace xs ys None → ⊥) → IsSome o
 place_some xs ys None h ne = absurd (ne h)
 place_some xs ys (Some k) h ne = refl
-
-pub part_below : (i k p : ℕ) (ps : List ℕ) → AreBelow i ps → k < length ps → p ≡ get_or ps k 0 → p < i
-part_below i k p ps b l e = subst (λ x. x < i) (sym e) (AreBelow-at i ps k b l)

@@ -3,7 +3,7 @@ use Rattle.std.proofs.Common.{◌≡◌, Bool, true, false, Option, Some, None, 
 use Rattle.core_expr.specs.Tree.{Tree}
 use Rattle.core_expr.specs.Terms.{same}
 use Rattle.core_expr.proofs.Equal.{same-true, same-refl}
-use Rattle.search_definition.specs.Terms.{if_so, either, or_else, first_some, in_list}
+use Rattle.search_definition.specs.Terms.{if_so, either, or_else, first_some, in_list, closed_subterms, first_at}
 use Rattle.term_order.specs.Firsts.{firsts_after, firsts}
 use Rattle.term_order.specs.Walks.{Among}
 
@@ -61,3 +61,7 @@ module _ {B : Type 0} (f : Tree → Option B) where
 
   pub first_some-firsts : (xs : List Tree) → first_some f (firsts xs) ≡ first_some f xs
   first_some-firsts xs = some_firsts [] xs (λ y m. cc)
+
+  -- so the first answer is found along a list without repeats
+  pub first_at-firsts : (e : Tree) (xs : List Tree) → xs ≡ firsts (closed_subterms e) → first_some f xs ≡ first_at f e
+  first_at-firsts e xs h = ap (first_some f) h ∙ first_some-firsts (closed_subterms e)

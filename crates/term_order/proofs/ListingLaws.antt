@@ -1,5 +1,5 @@
 -- The walk along the closed subterms.
-use Rattle.std.proofs.Common.{◌≡◌, ℕ, suc, ◌+◌, ◌<◌, Bool, true, false, not, List, [], ◌∷◌, ◌++◌, length, refl, ap, sym, ◌∙◌, arith, subst, inl, inr, append-nil, append_assoc}
+use Rattle.std.proofs.Common.{◌≡◌, ℕ, suc, ◌+◌, ◌<◌, Bool, true, false, not, List, [], ◌∷◌, ◌++◌, length, refl, ap, sym, ◌∙◌, arith, subst, inl, inr, append-nil, append_assoc, Result, Ok, Err, OnOk}
 use Rattle.std.specs.Prelude.{◌⊎◌, ◌||◌}
 use Rattle.std.specs.Bool.{OnFalse}
 use Rattle.std.specs.List.{list_any}
@@ -22,7 +22,7 @@ use Rattle.term_bank.proofs.MarkLaws.{In-parts, In-append-left, In-append-right,
 use Rattle.term_walks.proofs.TreeLaws.{shape-node}
 use Rattle.term_walks.proofs.NodeLaws.{In-below, same-index}
 use Rattle.term_order.specs.Firsts.{firsts_after, firsts}
-use Rattle.term_order.specs.Walks.{pushed, IsEntered, IsVisit, pending, weight, IsAbove, Among, IsKnown, IsListing}
+use Rattle.term_order.specs.Walks.{pushed, IsEntered, IsVisit, IsTaken, pending, weight, IsAbove, Among, IsKnown, IsListing}
 use Rattle.term_order.proofs.FirstLaws.{kept_in, last_in, pass_seen}
 use Rattle.term_order.proofs.SubtermLaws.{subterms_all, subterms-made, nodes_all, nodes-made}
 
@@ -196,7 +196,7 @@ pub listing_within : (ts : List Tree) (e : ℕ) (seen found stack mid : List ℕ
 listing_within ts e seen found stack mid i z h = taken_within ts e seen found stack mid i z h
 
 -- a node that was seen: all that it holds was found
-pub listing_skip : (ts : List Tree) (e : ℕ) (seen next found stack mid : List ℕ) (i : ℕ) → stack ≡ mid ++ i ∷ [] → IsEntered seen next i false → IsListing ts e seen found stack → IsListing ts e next found mid
+listing_skip : (ts : List Tree) (e : ℕ) (seen next found stack mid : List ℕ) (i : ℕ) → stack ≡ mid ++ i ∷ [] → IsEntered seen next i false → IsListing ts e seen found stack → IsListing ts e next found mid
 listing_skip ts e seen next found stack mid i z old h =
     subst (λ xs. IsListing ts e xs found mid) (sym old.1) (record {
       listed = h.listed ∙ ap (λ xs. picked ts found ++ firsts_after (picked ts found) xs) (ap (pending ts) z ∙ pending-push ts mid i)
@@ -223,7 +223,7 @@ listing_skip ts e seen next found stack mid i z old h =
         go (inr a) = inr (r.0, a, r.2)
 
 -- a new node
-pub listing_visit : (ts : List Tree) (e : ℕ) (seen next found more stack mid new : List ℕ) (i : ℕ) → IsDistinct ts → stack ≡ mid ++ i ∷ [] → IsEntered seen next i true → IsVisit ts i found more mid new → IsListing ts e seen found stack → IsListing ts e next more new
+listing_visit : (ts : List Tree) (e : ℕ) (seen next found more stack mid new : List ℕ) (i : ℕ) → IsDistinct ts → stack ≡ mid ++ i ∷ [] → IsEntered seen next i true → IsVisit ts i found more mid new → IsListing ts e seen found stack → IsListing ts e next more new
 listing_visit ts e seen next found more stack mid new i d z fresh v h =
     record {
       listed = h.listed ∙ ap (λ xs. picked ts found ++ firsts_after (picked ts found) xs) (ap (pending ts) z ∙ pending-push ts mid i ∙ ap (λ xs. xs ++ pending ts mid) (node-subterms ts i v.node v.stands)) ∙ listed v.found_is;
@@ -326,13 +326,32 @@ some_nodes (app f ps) = omega arith
 some_nodes (node h ns ps) = omega arith
 some_nodes (bind b ps e) = omega arith
 
-pub lighter_skip : (ts : List Tree) (stack mid : List ℕ) (i : ℕ) → stack ≡ mid ++ i ∷ [] → weight ts mid < weight ts stack
+lighter_skip : (ts : List Tree) (stack mid : List ℕ) (i : ℕ) → stack ≡ mid ++ i ∷ [] → weight ts mid < weight ts stack
 lighter_skip ts stack mid i z =
     let e = ap (weight ts) z ∙ weight-push ts mid i in let s = some_nodes (tree_at ts i) in omega (arith, e, s)
 
-pub lighter_visit : (ts : List Tree) (stack mid new found more : List ℕ) (i : ℕ) → stack ≡ mid ++ i ∷ [] → IsVisit ts i found more mid new → weight ts new < weight ts stack
+lighter_visit : (ts : List Tree) (stack mid new found more : List ℕ) (i : ℕ) → stack ≡ mid ++ i ∷ [] → IsVisit ts i found more mid new → weight ts new < weight ts stack
 lighter_visit ts stack mid new found more i z v =
     let e = ap (weight ts) z ∙ weight-push ts mid i in
     let n = node-nodes ts i v.node v.stands in
     let w = ap (weight ts) v.stack_is ∙ weight-pushed ts mid v.node.parts in
     omega (arith, e, n, w)
+
+-- a node that is taken
+pub was_seen : (ts : List Tree) (i : ℕ) (seen entered found stack : List ℕ) (b : Bool) → b ≡ false → IsEntered seen entered i b → IsTaken ts i seen entered found found stack stack
+was_seen ts i seen entered found stack b e h = inl (subst (IsEntered seen entered i) e h, refl, refl)
+
+pub was_new : {T E : Type 0} (r : Result T E) (ts : List Tree) (i : ℕ) (seen entered found more stack next : List ℕ) (b : Bool) → b ≡ true → IsEntered seen entered i b → OnOk r (IsVisit ts i found more stack next) → OnOk r (IsTaken ts i seen entered found more stack next)
+was_new (Ok x) ts i seen entered found more stack next b e h v = inr (subst (IsEntered seen entered i) e h, v)
+was_new (Err z) ts i seen entered found more stack next b e h v = v
+
+pub listing_taken : (ts : List Tree) (e : ℕ) (seen entered found more stack mid next : List ℕ) (i : ℕ) → IsDistinct ts → stack ≡ mid ++ i ∷ [] → IsTaken ts i seen entered found more mid next → IsListing ts e seen found stack → IsListing ts e entered more next
+listing_taken ts e seen entered found more stack mid next i d z (inl t) h =
+    subst (λ xs. IsListing ts e entered xs next) (sym t.1) (subst (IsListing ts e entered found) (sym t.2) (listing_skip ts e seen entered found stack mid i z t.0 h))
+listing_taken ts e seen entered found more stack mid next i d z (inr t) h =
+    listing_visit ts e seen entered found more stack mid next i d z t.0 t.1 h
+
+pub lighter_taken : (ts : List Tree) (seen entered found more stack mid next : List ℕ) (i : ℕ) → stack ≡ mid ++ i ∷ [] → IsTaken ts i seen entered found more mid next → weight ts next < weight ts stack
+lighter_taken ts seen entered found more stack mid next i z (inl t) =
+    subst (λ qs. weight ts qs < weight ts stack) (sym t.2) (lighter_skip ts stack mid i z)
+lighter_taken ts seen entered found more stack mid next i z (inr t) = lighter_visit ts stack mid next found more i z t.1

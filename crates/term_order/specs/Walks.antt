@@ -27,6 +27,10 @@ pub record IsVisit (ts : List Tree) (i : ℕ) (found more stack next : List ℕ)
   pub stack_is : next ≡ pushed stack node.parts
   pub found_is : (IsScoped 0 (tree_at ts i) × (more ≡ found ++ i ∷ [])) ⊎ ((IsScoped 0 (tree_at ts i) → ⊥) × (more ≡ found))
 
+-- the node at i was seen, or it was visited
+abbrev pub IsTaken : List Tree → ℕ → List ℕ → List ℕ → List ℕ → List ℕ → List ℕ → List ℕ → Type 0
+IsTaken ts i seen entered found more stack next = (IsEntered seen entered i false × (more ≡ found) × (next ≡ stack)) ⊎ (IsEntered seen entered i true × IsVisit ts i found more stack next)
+
 -- the closed subterms of what the stack holds, from above
 abbrev pub pending : List Tree → List ℕ → List Tree
 pending ts [] = []

@@ -16,15 +16,15 @@ use Rattle.term_bank.specs.Images.{In, found}
 use Rattle.term_bank.proofs.TableLaws.{fits-picked}
 use Rattle.term_bank.proofs.InstLaws.{longer}
 use Rattle.term_walks.specs.Moved.{moved}
-use Rattle.term_walks.specs.Walks.{or_index, image_at, given, AreWithin, HasParts, IsWalk, IsRemade, KeepsImage, AreMoved}
+use Rattle.term_walks.specs.Walks.{or_index, image_at, tree_for, given, AreWithin, HasParts, IsWalk, IsRemade, KeepsImage, AreMoved}
 use Rattle.term_walks.proofs.TreeLaws.{moved-made, moved-given, moved-replace, shape-node}
 use Rattle.term_walks.proofs.NodeLaws.{HasTree-more, HasNode-more, one_node, picked-map, same-index, index-same}
 use Rattle.term_walks.proofs.WalkLaws.{walked_at}
 
-at_key : (i q : ℕ) → is_at (nat_cmp i) q ≡ true → i ≡ q
+pub at_key : (i q : ℕ) → is_at (nat_cmp i) q ≡ true → i ≡ q
 at_key i q h = grind (arith, nat_tests)
 
-at_itself : (i : ℕ) → is_at (nat_cmp i) i ≡ true
+pub at_itself : (i : ℕ) → is_at (nat_cmp i) i ≡ true
 at_itself i = grind (arith, nat_tests)
 
 -- what the pairs give for the trees of a bank
@@ -37,11 +37,6 @@ tail_within n p es h q k e = go (is_at (nat_cmp q) p.0) refl
     go : (b : Bool) → is_at (nat_cmp q) p.0 ≡ b → q < n
     go true z = h q p.1 (ap (λ b. cond b (Some p.1) (found q es)) z)
     go false z = h q k (ap (λ b. cond b (Some p.1) (found q es)) z ∙ e)
-
--- the tree at an index, where there is one
-abbrev pub tree_for : List Tree → Option ℕ → Option Tree
-tree_for ts None = None
-tree_for ts (Some k) = Some (get_or ts k true_)
 
 pub given-at : (ts : List Tree) (es : List (ℕ × ℕ)) (q : ℕ) → IsDistinct ts → KeysWithin (length ts) es → q < length ts → given ts es (get_or ts q true_) ≡ tree_for ts (found q es)
 given-at ts [] q d w l = refl

@@ -1,12 +1,15 @@
 -- Lists of indices that agree, and the parts of nodes with one head and the same numbers.
-use Rattle.std.proofs.Common.{◌≡◌, ℕ, suc, min, true, nat_eq, List, [], ◌∷◌, length, refl, sym, ◌∙◌, arith}
+use Rattle.std.proofs.Common.{◌≡◌, ℕ, ◌<◌, suc, min, true, nat_eq, List, [], ◌∷◌, length, get_or, refl, sym, ◌∙◌, arith, subst}
 use Rattle.std.proofs.lemmas.Bool.{and_parts, eqb-true}
+use Rattle.std.proofs.lemmas.Bool.Decides.{nat_tests}
 use Rattle.core_expr.specs.declared.head.Head.{Head}
 use Rattle.core_expr.specs.declared.head.Head.TheVariants.{Num, Str, Enum, Tuple}
 use Rattle.core_expr.specs.declared.row.RowKind.{RowKind}
 use Rattle.core_expr.specs.declared.row.RowKind.TheVariants.{Bound, Symbol, Plain, Binding}
-use Rattle.core_expr.specs.Heads.{plain_fits, binder_arity, head_arity, is_empty, is_only, is_text}
-use Rattle.core_expr.specs.Nodes.{numbers_fit}
+use Rattle.core_expr.specs.Heads.{plain_fits, binder_arity, head_arity, is_empty, is_only, is_text, first, after_first}
+use Rattle.core_expr.specs.Nodes.{AreBelow, numbers_fit}
+use Rattle.core_expr.proofs.BuildLaws.{no_numbers}
+use Rattle.term_bank.proofs.TableLaws.{AreBelow-at}
 use Rattle.term_walks.specs.Places.{AgreeBefore}
 
 pub parts_same : (ps qs : List ℕ) → AgreeBefore ps qs (min (length ps) (length qs)) → length ps ≡ length qs → ps ≡ qs
@@ -38,3 +41,22 @@ kind-count (Symbol f) ns a b v w = eqb-true a f.arity (and_parts (nat_eq (length
 kind-count (Plain h) ns a b v w = plain-count h ns a b v w
 kind-count (Binding g) ns a b v w =
     eqb-true a (binder_arity g) (and_parts (is_empty ns) (nat_eq a (binder_arity g)) v).1 ∙ sym (eqb-true b (binder_arity g) (and_parts (is_empty ns) (nat_eq b (binder_arity g)) w).1)
+
+-- the numbers of a symbol's node
+pub two_numbers : (ns : List ℕ) → nat_eq (length ns) 2 ≡ true → first ns ∷ first (after_first ns) ∷ [] ≡ ns
+two_numbers [] w = cc
+two_numbers (n ∷ []) w = cc
+two_numbers (n ∷ a ∷ []) w = refl
+two_numbers (n ∷ a ∷ m ∷ ns) w = absurd (no (length ns) w)
+  where
+    no : (k : ℕ) → nat_eq (suc (suc (suc k))) 2 ≡ true → ⊥
+    no k w = grind (arith, nat_tests)
+
+-- a count of parts is not kept
+pub only-kept : (k : ℕ) (ns : List ℕ) → is_only k ns ≡ true → after_first ns ≡ []
+only-kept k [] w = refl
+only-kept k (n ∷ ns) w = no_numbers ns (and_parts (nat_eq n k) (is_empty ns) w).1
+
+-- a part of a node
+pub part_below : (i k p : ℕ) (ps : List ℕ) → AreBelow i ps → k < length ps → p ≡ get_or ps k 0 → p < i
+part_below i k p ps b l e = subst (λ x. x < i) (sym e) (AreBelow-at i ps k b l)

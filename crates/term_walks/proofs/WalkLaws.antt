@@ -1,6 +1,6 @@
 -- Laws of walks from a node down.
-use Rattle.std.proofs.Common.{◌≡◌, ℕ, zero, suc, ◌+◌, ◌<◌, ◌≤◌, Bool, true, false, Option, None, List, [], ◌∷◌, ◌++◌, length, get_or, take, drop, refl, ap, sym, ◌∙◌, arith, subst, inl, inr, is_some, Result, Ok, Err}
-use Rattle.std.specs.Prelude.{◌⊎◌, ◌↔◌, OnOk}
+use Rattle.std.proofs.Common.{◌≡◌, ℕ, zero, suc, ◌+◌, ◌<◌, ◌≤◌, Bool, true, false, Option, None, List, [], ◌∷◌, ◌++◌, length, get_or, take, drop, refl, ap, sym, ◌∙◌, arith, subst, inl, inr, is_some}
+use Rattle.std.specs.Prelude.{◌⊎◌, ◌↔◌}
 use Rattle.std.proofs.lemmas.List.{take_more, take_all}
 use Rattle.core_expr.specs.Tree.{Tree, true_}
 use Rattle.core_expr.specs.Terms.{same}
@@ -9,7 +9,7 @@ use Rattle.search_definition.specs.Terms.{either, occurs}
 use Rattle.term_bank.specs.Banks.{IsDistinct, HasNode}
 use Rattle.term_bank.specs.Images.{In, found, height}
 use Rattle.term_bank.proofs.TableLaws.{fits-picked}
-use Rattle.term_bank.proofs.MarkLaws.{In-append-left, In-append-right, In-parts, height-In, height-le}
+use Rattle.term_bank.proofs.MarkLaws.{In-append-left, In-append-right, In-parts, height-In, height-le, is_last}
 use Rattle.term_walks.specs.Walks.{IsAdded, HasParts, IsTurn, AreWalked, IsWalk, IsSought}
 use Rattle.term_walks.proofs.TreeLaws.{occurs_any, occurs-made, occurs-self, shape-node}
 use Rattle.term_walks.proofs.NodeLaws.{In-below, same-index, index-same}
@@ -80,10 +80,6 @@ turn_of ts images i old new a =
     go q (inl m) = inr (In-below i a.node.parts a.below q m)
     go q (inr m) = inl m
 
-pub on_ok : {T E : Type 0} (r : Result T E) (P Q : Type 0) → (P → Q) → OnOk r P → OnOk r Q
-on_ok (Ok x) P Q f h = f h
-on_ok (Err e) P Q f h = h
-
 -- the walk's list
 walked_push : (ts : List Tree) (images : List (ℕ × ℕ)) (done old new : List ℕ) (k : ℕ) → ((q : ℕ) → In q old → In q (k ∷ new)) → k < length ts → (found k images ≡ None → HasParts ts k new) → AreWalked ts images done old → AreWalked ts images (done ++ k ∷ []) new
 walked_push ts images [] old new k f l p a = (l, p, tt)
@@ -120,9 +116,6 @@ put_off k old mid e q h = go (In-parts q mid (k ∷ []) (subst (In q) e h))
     go (inr (inl z)) = inl z
     go (inr (inr m)) = absurd m
 
-pub is_taken : (k : ℕ) (old mid : List ℕ) → old ≡ mid ++ k ∷ [] → In k old
-is_taken k old mid e = subst (In k) (sym e) (In-append-right k mid (k ∷ []) (inl refl))
-
 pub stays_in : (k q : ℕ) (old mid : List ℕ) → old ≡ mid ++ k ∷ [] → In q mid → In q old
 stays_in k q old mid e h = subst (In q) (sym e) (In-append-left q mid (k ∷ []) h)
 
@@ -142,7 +135,7 @@ walk_turn ts images e k done out old mid new eo em s a =
         later (inr m) = inr (s.kept q m)
 
     within : k < length ts
-    within = a.within k (is_taken k old mid em)
+    within = a.within k (is_last k old mid em)
 
     go : (q : ℕ) → In q mid ⊎ (q < k) → q < length ts
     go q (inl h) = a.within q (stays_in k q old mid em h)
@@ -158,7 +151,7 @@ walk_turn ts images e k done out old mid new eo em s a =
 
 pub lower : (k : ℕ) (old mid new : List ℕ) → old ≡ mid ++ k ∷ [] → ((q : ℕ) → In q mid → q < k) → ((q : ℕ) → In q new → In q mid ⊎ (q < k)) → height new < height old
 lower k old mid new em b only =
-    let up : k < height old = height-In k old (is_taken k old mid em) in
+    let up : k < height old = height-In k old (is_last k old mid em) in
     let down : height new ≤ k = height-le k new (λ q h. go q (only q h)) in
     omega arith
   where
@@ -232,7 +225,7 @@ sought_turn ts s e k old mid new d ls ne em a h =
     }
   where
     taken : k < length ts
-    taken = h.within k (is_taken k old mid em)
+    taken = h.within k (is_last k old mid em)
 
     node : occurs (get_or ts s true_) (get_or ts k true_) ≡ occurs_any (get_or ts s true_) (picked ts a.node.parts)
     node = occurs-node ts (get_or ts s true_) k a.node a.stands (not_same ts s k d ls taken ne)
@@ -242,7 +235,7 @@ sought_turn ts s e k old mid new d ls ne em a h =
     within q (inr m) = h.within q (stays_in k q old mid em m)
 
     up : (q : ℕ) → In q a.node.parts ⊎ In q mid → occurs (get_or ts s true_) (get_or ts q true_) ≡ true → occurs (get_or ts s true_) (get_or ts e true_) ≡ true
-    up q (inl m) o = h.up k (is_taken k old mid em) (node ∙ In-any (get_or ts s true_) ts a.node.parts q m o)
+    up q (inl m) o = h.up k (is_last k old mid em) (node ∙ In-any (get_or ts s true_) ts a.node.parts q m o)
     up q (inr m) o = h.up q (stays_in k q old mid em m) o
 
     below : ((q : ℕ) × In q a.node.parts × (occurs (get_or ts s true_) (get_or ts q true_) ≡ true)) → (q : ℕ) × In q new × (occurs (get_or ts s true_) (get_or ts q true_) ≡ true)
@@ -257,7 +250,7 @@ sought_turn ts s e k old mid new d ls ne em a h =
 
 pub sought_found : (ts : List Tree) (s e k : ℕ) (old mid : List ℕ) → k ≡ s → old ≡ mid ++ k ∷ [] → IsSought ts s e old → true ≡ occurs (get_or ts s true_) (get_or ts e true_)
 sought_found ts s e k old mid z em h =
-    sym (h.up k (is_taken k old mid em) (occurs-self (get_or ts s true_) (get_or ts k true_) (index-same ts s k (sym z))))
+    sym (h.up k (is_last k old mid em) (occurs-self (get_or ts s true_) (get_or ts k true_) (index-same ts s k (sym z))))
 
 pub sought_none : (ts : List Tree) (s e : ℕ) (todo : List ℕ) → todo ≡ [] → IsSought ts s e todo → false ≡ occurs (get_or ts s true_) (get_or ts e true_)
 sought_none ts s e todo en h = go (occurs (get_or ts s true_) (get_or ts e true_)) refl

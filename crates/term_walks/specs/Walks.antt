@@ -24,6 +24,11 @@ abbrev pub given : List Tree → List (ℕ × ℕ) → Tree → Option Tree
 given ts [] x = None
 given ts (p ∷ ps) x = if_so (same (tree_at ts p.0) x) (Some (tree_at ts p.1)) (given ts ps x)
 
+-- the tree at an index, where there is one
+abbrev pub tree_for : List Tree → Option ℕ → Option Tree
+tree_for ts None = None
+tree_for ts (Some k) = Some (tree_at ts k)
+
 -- the indices of the pairs are below n
 abbrev pub AreWithin : ℕ → List (ℕ × ℕ) → Type 0
 AreWithin n es = (q k : ℕ) → found q es ≡ Some k → (q < n) × (k < n)

@@ -2,7 +2,6 @@
 use Rattle.std.proofs.Common.{◌≡◌, ℕ, zero, suc, ◌<◌, min, Bool, true, false, cond, nat_eq, None, List, [], ◌∷◌, length, get_or, refl, ap, sym, ◌∙◌, arith, subst, inl, inr, IsTrue}
 use Rattle.std.specs.Prelude.{◌⊎◌}
 use Rattle.std.proofs.lemmas.Bool.{and_parts, eqb-true}
-use Rattle.std.proofs.lemmas.Bool.Decides.{nat_tests}
 use Rattle.core_expr.specs.declared.head.Sym.{Sym}
 use Rattle.core_expr.specs.declared.head.Head.{Head}
 use Rattle.core_expr.specs.declared.head.Head.TheVariants.{Str, Enum, Tuple}
@@ -11,7 +10,7 @@ use Rattle.core_expr.specs.declared.row.RowKind.TheVariants.{Bound, Symbol, Plai
 use Rattle.core_expr.specs.Tree.{Tree, true_}
 use Rattle.core_expr.specs.Tree.Tree.{app, node}
 use Rattle.core_expr.specs.Terms.{head_code, binder_code, lists_equal, same_sym}
-use Rattle.core_expr.specs.Heads.{kind_at, kind_table, kind_number, kind_symbol, HasBody, make_kind, parts_of, front, back, kept_numbers, table_numbers, plain_fits, binder_arity, first, after_first, is_empty, is_only}
+use Rattle.core_expr.specs.Heads.{kind_at, kind_table, kind_number, kind_symbol, HasBody, make_kind, parts_of, front, back, kept_numbers, table_numbers, plain_fits, binder_arity, first, after_first, is_empty}
 use Rattle.core_expr.specs.Nodes.{Node, canon_sym, node_kind, node_fits, numbers_fit, picked}
 use Rattle.core_expr.proofs.Equal.{lists-same, nat-same, sym-same}
 use Rattle.core_expr.proofs.NodeLaws.{node_numbers_fit, node_below, kind_number-node, node-body}
@@ -25,7 +24,7 @@ use Rattle.unifier_definition.proofs.Differs.{Says, difference-says, says-self}
 use Rattle.term_bank.specs.Banks.{IsDistinct, HasNode}
 use Rattle.term_bank.proofs.TableLaws.{fits-picked, is_true}
 use Rattle.term_walks.specs.Places.{AgreeBefore}
-use Rattle.term_walks.proofs.PlaceLaws.{kind-count}
+use Rattle.term_walks.proofs.PlaceLaws.{kind-count, two_numbers, only-kept}
 use Rattle.unify_meta.specs.Disagreements.{is_listing}
 
 -- the parts of two nodes
@@ -68,10 +67,6 @@ by-list ms [] [] = refl
 by-list ms [] (t ∷ ts) = refl
 by-list ms (s ∷ ss) [] = refl
 by-list ms (s ∷ ss) (t ∷ ts) = ap (then (difference ms s t)) (by-list ms ss ts)
-
-only-kept : (k : ℕ) (ns : List ℕ) → is_only k ns ≡ true → after_first ns ≡ []
-only-kept k [] w = refl
-only-kept k (n ∷ ns) w = no_numbers ns (and_parts (nat_eq n k) (is_empty ns) w).1
 
 listing_differs : (ms : List Sym) (k : RowKind) (ns ls : List ℕ) (ss ts : List Tree) → is_listing k ≡ true → numbers_fit k ns (length ss) ≡ true → numbers_fit k ls (length ts) ≡ true → difference ms (make_kind k ns ss) (make_kind k ls ts) ≡ first_difference ms ss ts
 listing_differs ms (Plain Enum) ns ls ss ts e v w =
@@ -134,15 +129,6 @@ unlike_heads (Symbol f) (Symbol g) ns ls ne = absurd (ne refl)
 unlike_heads (Plain h) (Plain k) ns ls ne = inl (other_number (head_code h) (head_code k) ne)
 unlike_heads (Binding b) (Binding c) ns ls ne = other_number (binder_code b) (binder_code c) ne
 unlike_heads _ _ ns ls ne = tt
-
-two_numbers : (ns : List ℕ) → nat_eq (length ns) 2 ≡ true → first ns ∷ first (after_first ns) ∷ [] ≡ ns
-two_numbers [] w = cc
-two_numbers (n ∷ []) w = cc
-two_numbers (n ∷ a ∷ []) w = refl
-two_numbers (n ∷ a ∷ m ∷ ns) w = absurd (no (length ns) w)
-  where
-    no : (k : ℕ) → nat_eq (suc (suc (suc k))) 2 ≡ true → ⊥
-    no k w = grind (arith, nat_tests)
 
 -- a head that counts no parts tells its numbers by those that the tree keeps
 kept_alike : (h : Head) (ns ls : List ℕ) (a b : ℕ) → is_listing (Plain h) ≡ false → plain_fits h ns a ≡ true → plain_fits h ls b ≡ true → kept_numbers h ns ≡ kept_numbers h ls → ns ≡ ls

@@ -3,7 +3,6 @@ use Rattle.std.proofs.Common.{◌≡◌, ℕ, ◌+◌, ◌<◌, ◌≤◌, Bool,
 use Rattle.std.specs.Prelude.{◌⊎◌, IfOk}
 use Rattle.std.specs.Ordering.{nat_cmp}
 use Rattle.std.specs.BTreeMap.{is_at}
-use Rattle.std.proofs.lemmas.Bool.Decides.{nat_tests}
 use Rattle.std.proofs.lemmas.List.{take_more, take_all}
 use Rattle.core_expr.specs.declared.head.Sym.{Sym}
 use Rattle.core_expr.specs.Tree.{Tree, Parts}
@@ -19,9 +18,9 @@ use Rattle.term_bank.specs.Images.{In, found}
 use Rattle.term_bank.proofs.MarkLaws.{In-parts, In-append-left, In-append-right}
 use Rattle.term_bank.proofs.InstLaws.{longer, same_tree}
 use Rattle.term_walks.specs.Moved.{or_self, moved, moved_parts}
-use Rattle.term_walks.specs.Walks.{given, AreWithin}
+use Rattle.term_walks.specs.Walks.{given, tree_for, AreWithin}
 use Rattle.term_walks.proofs.NodeLaws.{HasTree-more}
-use Rattle.term_walks.proofs.MoveLaws.{tree_for, KeysWithin, given-at, given-key}
+use Rattle.term_walks.proofs.MoveLaws.{at_key, at_itself, KeysWithin, given-at, given-key}
 use Rattle.unify_meta.specs.Metas.{symbols}
 use Rattle.unify_meta.specs.Grounds.{IsMetaNode, HasGround, AreGround}
 
@@ -124,12 +123,6 @@ ground_none ts ns spare images l e =
       only = λ q k f. cc (ap (found q) (sym e) ∙ f);
       all = λ n h. absurd h;
     }
-
-at_key : (i q : ℕ) → is_at (nat_cmp i) q ≡ true → i ≡ q
-at_key i q h = grind (arith, nat_tests)
-
-at_itself : (i : ℕ) → is_at (nat_cmp i) i ≡ true
-at_itself i = grind (arith, nat_tests)
 
 pub ground_more : (ts now : List Tree) (ns : List ℕ) (k i spare : ℕ) (old new : List (ℕ × ℕ)) → Extends ts now → k < length ns → HasTree now i (app (canon_sym (get_or ns k 0) 0) end) → ((q : ℕ) → found q new ≡ cond (is_at (nat_cmp i) q) (Some spare) (found q old)) → AreGround ts (take k ns) spare old → AreGround now (take (k + 1) ns) spare new
 ground_more ts now ns k i spare old new x l h f g =

@@ -1,5 +1,5 @@
 -- Which nodes are metavariables.
-use Rattle.std.proofs.Common.{◌≡◌, ℕ, ◌<◌, Bool, true, false, nat_eq, Some, None, List, [], ◌∷◌, ◌||◌, length, get_or, refl, ap, sym, ◌∙◌, arith}
+use Rattle.std.proofs.Common.{◌≡◌, ℕ, ◌<◌, Bool, true, false, nat_eq, Some, None, List, [], ◌∷◌, ◌++◌, ◌||◌, length, get_or, refl, ap, sym, ◌∙◌, arith}
 use Rattle.std.specs.List.{list_any}
 use Rattle.std.proofs.lemmas.Bool.{and_parts, eqb-true}
 use Rattle.core_expr.specs.declared.head.Sym.{Sym}
@@ -41,6 +41,11 @@ listed-any (m ∷ ns) n =
     go : (b : Bool) → list_any (λ y. nat_eq y n) ns ≡ listed (symbols ns) (canon_sym n 0) → (b || list_any (λ y. nat_eq y n) ns) ≡ either b true (listed (symbols ns) (canon_sym n 0))
     go true e = refl
     go false e = e
+
+-- joined lists
+pub symbols-append : (xs ys : List ℕ) → symbols (xs ++ ys) ≡ symbols xs ++ symbols ys
+symbols-append [] ys = refl
+symbols-append (x ∷ xs) ys = ap (λ fs. canon_sym x 0 ∷ fs) (symbols-append xs ys)
 
 -- a node that is no symbol, or has parts
 kind-none : (ms : List Sym) (k : RowKind) (ns : List ℕ) (ss : List Tree) → (kind_number k ≡ 6 → ⊥) → meta_of ms (make_kind k ns ss) ≡ None

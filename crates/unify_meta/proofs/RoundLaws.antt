@@ -24,14 +24,10 @@ use Rattle.unify_meta.specs.Metas.{symbols}
 use Rattle.unify_meta.specs.Disagreements.{IsAssignment}
 use Rattle.unify_meta.specs.Bindings.{bindings, TermsBelow}
 use Rattle.unify_meta.specs.Rounds.{IsPending, IsBoundTo, unify_from}
-use Rattle.unify_meta.proofs.MetaLaws.{same-constant, no_number}
+use Rattle.unify_meta.proofs.MetaLaws.{same-constant, no_number, symbols-append}
 use Rattle.unify_meta.proofs.PutLaws.{put-replace, has-occurs, select}
 
 -- the metavariables but one
-symbols-push : (xs : List ℕ) (x : ℕ) → symbols (xs ++ x ∷ []) ≡ symbols xs ++ canon_sym x 0 ∷ []
-symbols-push [] x = refl
-symbols-push (y ∷ xs) x = ap (λ fs. canon_sym y 0 ∷ fs) (symbols-push xs x)
-
 pub length-symbols : (xs : List ℕ) → length (symbols xs) ≡ length xs
 length-symbols [] = refl
 length-symbols (x ∷ xs) = ap suc (length-symbols xs)
@@ -53,13 +49,13 @@ without-push f g (h ∷ fs) = go (same_sym f h) (same_sym f g) (without-push f g
 without-step : (number x : ℕ) (ms : List ℕ) (k : ℕ) → k < length ms → x ≡ get_or ms k 0 → without (canon_sym number 0) (symbols (take (k + 1) ms)) ≡ select (nat_eq number x) (without (canon_sym number 0) (symbols (take k ms))) (without (canon_sym number 0) (symbols (take k ms)) ++ canon_sym x 0 ∷ [])
 without-step number x ms k l e =
     ap (λ xs. without (canon_sym number 0) (symbols xs)) (take_more ms k 0 l ∙ ap (λ y. take k ms ++ y ∷ []) (sym e))
-    ∙ ap (without (canon_sym number 0)) (symbols-push (take k ms) x)
+    ∙ ap (without (canon_sym number 0)) (symbols-append (take k ms) (x ∷ []))
     ∙ without-push (canon_sym number 0) (canon_sym x 0) (symbols (take k ms))
     ∙ ap (λ b. select b (without (canon_sym number 0) (symbols (take k ms))) (without (canon_sym number 0) (symbols (take k ms)) ++ canon_sym x 0 ∷ [])) (same-constant number x)
 
 pub without_kept : (number x : ℕ) (ms out more : List ℕ) (k : ℕ) → k < length ms → x ≡ get_or ms k 0 → (x ≡ number → ⊥) → more ≡ out ++ x ∷ [] → symbols out ≡ without (canon_sym number 0) (symbols (take k ms)) → symbols more ≡ without (canon_sym number 0) (symbols (take (k + 1) ms))
 without_kept number x ms out more k l e ne m h =
-    ap symbols m ∙ symbols-push out x ∙ ap (λ fs. fs ++ canon_sym x 0 ∷ []) h
+    ap symbols m ∙ symbols-append out (x ∷ []) ∙ ap (λ fs. fs ++ canon_sym x 0 ∷ []) h
     ∙ sym (without-step number x ms k l e ∙ ap (λ b. select b (without (canon_sym number 0) (symbols (take k ms))) (without (canon_sym number 0) (symbols (take k ms)) ++ canon_sym x 0 ∷ [])) (no_number number x (λ z. ne (sym z))))
 
 pub without_dropped : (number x : ℕ) (ms out : List ℕ) (k : ℕ) → k < length ms → x ≡ get_or ms k 0 → x ≡ number → symbols out ≡ without (canon_sym number 0) (symbols (take k ms)) → symbols out ≡ without (canon_sym number 0) (symbols (take (k + 1) ms))

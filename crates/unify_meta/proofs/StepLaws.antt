@@ -1,5 +1,5 @@
 -- One step to the first difference.
-use Rattle.std.proofs.Common.{◌≡◌, ℕ, ◌<◌, Some, None, List, length, get_or, refl, ap, sym, ◌∙◌, subst, inl, inr, IsTrue, Bool, true, false}
+use Rattle.std.proofs.Common.{◌≡◌, ℕ, ◌<◌, Some, None, List, length, get_or, refl, ap, sym, ◌∙◌, inl, inr, IsTrue, Bool, true, false}
 use Rattle.std.specs.Prelude.{◌⊎◌}
 use Rattle.core_expr.specs.declared.head.Sym.{Sym}
 use Rattle.core_expr.specs.Tree.{Tree}
@@ -7,7 +7,7 @@ use Rattle.core_expr.specs.Tree.Tree.{bound, app, node, bind}
 use Rattle.core_expr.specs.Tree.Parts.{end}
 use Rattle.core_expr.specs.Heads.{kind_at}
 use Rattle.core_expr.specs.Terms.{same, same_sym}
-use Rattle.core_expr.specs.Nodes.{Node, AreBelow, canon_sym, picked}
+use Rattle.core_expr.specs.Nodes.{Node, canon_sym, picked}
 use Rattle.core_expr.proofs.Equal.{same-true}
 use Rattle.unifier_definition.specs.Metas.{meta_of}
 use Rattle.unifier_definition.specs.Unify.{against, met_by, difference, differences}
@@ -71,6 +71,3 @@ module _ (law : DifferenceByParts) (ms : List Sym) (ts : List Tree) (i j : ℕ) 
   pub ends_short : IsPlace n.parts m.parts None → difference ms (tree_at ts i) (tree_at ts j) ≡ Clash
   ends_short h =
       told.0 ∙ parts_short ms ts n.parts m.parts h (λ e. ne (d i j gi.within gj.within (told.1 (ap (picked ts) (parts_same n.parts m.parts h e)))))
-
-pub part_below : (i k p : ℕ) (ps : List ℕ) → AreBelow i ps → k < length ps → p ≡ get_or ps k 0 → p < i
-part_below i k p ps b l e = subst (λ x. x < i) (sym e) (AreBelow-at i ps k b l)

@@ -1,5 +1,5 @@
 -- Bindings by indices.
-use Rattle.std.specs.Prelude.{ℕ, ◌<◌, Option, Some, None, List, [], ◌∷◌}
+use Rattle.std.specs.Prelude.{ℕ, ◌<◌, List, [], ◌∷◌}
 use Rattle.core_expr.specs.Tree.{Tree}
 use Rattle.core_expr.specs.Nodes.{canon_sym}
 use Rattle.unifier_definition.specs.Unify.{Binding}
@@ -10,11 +10,6 @@ use Rattle.unify_meta.specs.declared.binding.BoundMeta.{BoundMeta}
 abbrev pub bindings : List Tree → List BoundMeta → List Binding
 bindings ts [] = []
 bindings ts (b ∷ bs) = record { name = canon_sym b.name 0; term = tree_at ts b.term } ∷ bindings ts bs
-
--- the tree at an index, where there is one
-abbrev pub tree_for : List Tree → Option ℕ → Option Tree
-tree_for ts None = None
-tree_for ts (Some k) = Some (tree_at ts k)
 
 -- the indices of the terms are below n
 abbrev pub TermsBelow : ℕ → List BoundMeta → Type 0

@@ -3,7 +3,8 @@ ghost use Rattle.std.specs.Prelude.{◌≡◌, ◌<◌, ℕ, List, IfSome};
 ghost use Rattle.core_expr.specs.Tree.{Tree};
 ghost use Rattle.core_expr.specs.Nodes.{canon_sym};
 ghost use Rattle.unifier_definition.specs.Unify.{bound_to};
-ghost use Rattle.unify_meta.specs.Bindings.{bindings, tree_for, TermsBelow};
+ghost use Rattle.unify_meta.specs.Bindings.{bindings, TermsBelow};
+ghost use Rattle.term_walks.specs.Walks.{tree_for};
 
 /// A metavariable with its term: its number, and the index of the term.
 #[derive(Clone, Copy, Debug)]

@@ -1,3 +1,5 @@
 pub mod Reasoning
 pub mod Planning
 pub mod Keeping
+pub mod Siding
+pub mod Finding

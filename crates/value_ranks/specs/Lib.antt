@@ -2,3 +2,5 @@ pub mod Judging
 pub mod Reasons
 pub mod Plans
 pub mod Memos
+pub mod Sides
+pub mod Answers

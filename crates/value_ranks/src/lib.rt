@@ -5,14 +5,20 @@
 //! no walk recurses.
 #![tactic(auto)]
 
+mod entry;
 mod grounds;
 mod judge;
 mod link;
+mod news;
 mod plan;
 mod reason;
+mod settling;
+mod side;
 mod value;
 mod values;
 mod work;
 
+pub use entry::{ValueRank, rank_from};
 pub use judge::{grounds_on, value_on};
+pub use settling::settle;
 pub use value::{Connective, Value};

@@ -1,4 +1,4 @@
-use Rattle.std.proofs.Common.{◌<◌, length, subst, arith, Some}
+use Rattle.std.proofs.Common.{length, subst, arith, Some}
 use Rattle.std.specs.Prelude.{IfOk}
 use Rattle.branch_state.specs.Parts.{shown}
 use Rattle.tableau_search.specs.Found.{IsFound}

@@ -1,11 +1,10 @@
-use Rattle.std.proofs.Common.{◌≡◌, ◌<◌, ◌∙◌, arith, [], sym}
+use Rattle.std.proofs.Common.{arith}
 use Rattle.formula_rules.specs.Answers.{universal_of}
 use Rattle.term_bank.specs.Banks.{tree_at}
 use Rattle.term_bank.proofs.InstLaws.{Extends-trans}
 use Rattle.core_expr.specs.Terms.{nodes}
 use Rattle.instance_terms.specs.Fresh.{meta_from}
-use Rattle.instance_terms.specs.Tasks.{room_for}
-use Rattle.instance_terms.proofs.TaskLaws.{taken_task, listing_turn, listing_start, listing_end, in_room}
+use Rattle.instance_terms.proofs.TaskLaws.{taken_task, listing_turn, listing_start, in_room}
 use Rattle.instance_terms.proofs.atoms.atoms_from.Goals as goal
 
 pub loop-init : goal.loop-init

@@ -4,7 +4,8 @@ use Rattle.unifier_definition.specs.Unify.{mgu, bound_to}
 use Rattle.term_bank.specs.Banks.{tree_at}
 use Rattle.term_bank.proofs.InstLaws.{same_tree, longer}
 use Rattle.unify_meta.specs.Metas.{symbols}
-use Rattle.unify_meta.specs.Bindings.{bindings, tree_for, TermsBelow}
+use Rattle.unify_meta.specs.Bindings.{bindings, TermsBelow}
+use Rattle.term_walks.specs.Walks.{tree_for}
 use Rattle.unify_meta.specs.Rounds.{IsAnswer}
 use Rattle.instance_terms.specs.Fresh.{fresh_of}
 use Rattle.instance_terms.proofs.TermLaws.{term_none, term_unbound, term_some}

@@ -1,14 +1,19 @@
-use Rattle.std.proofs.Common.{◌≡◌, ◌<◌, ℕ, Bool, true, List, ◌∷◌, [], length, sym, subst, ◌∙◌}
+use Rattle.std.proofs.Common.{refl, ◌≡◌, ◌<◌, ℕ, Bool, true, List, ◌∷◌, [], length, sym, subst, ◌∙◌}
 use Rattle.branch_state.specs.declared.parts.New.{New}
 use Rattle.branch_state.specs.Shown.{Placed, placed_at}
+use Rattle.seq_calculus.specs.Calculus.{IsClosed}
+use Rattle.search_definition.specs.Rules.Sides.{Alone as One, Both}
+use Rattle.search_trace.specs.Traces.{result_of}
 use Rattle.search_definition.specs.Needs.{union}
 use Rattle.branch_state.specs.Parts.{shown}
 use Rattle.search_loop.specs.declared.work.Turned.TheVariants.{Stuck as Sticks, Closes as Shuts, Alone as Goes, Splits as Forks}
 use Rattle.tableau_search.specs.declared.finder.Decision.TheVariants.{Applies}
 use Rattle.tableau_search.specs.Found.{Decided}
-use Rattle.tableau_search.specs.Entries.{AreKnown, needs_of_all}
+use Rattle.tableau_search.specs.Entries.{AreKnown, new_tree, new_trees, needs_of_all}
 use Rattle.tableau_search.specs.Memos.{IsMemo}
 use Rattle.tableau_search.specs.Boards.{IsBoard, state_of, Turns, used_alone, used_both}
+use Rattle.tableau_search.proofs.ClosedLaws.{sides_closed}
+use Rattle.tableau_search.proofs.SplitLaws.{split_rule}
 use Rattle.tableau_search.proofs.MemoLaws.{memo_kept, memo_alone, memo_split}
 use Rattle.tableau_search.proofs.BoardLaws.{board_kept, from_kept, sticks, shuts, goes, forks}
 use Rattle.tableau_search.proofs.engine.take_turn.Goals as goal
@@ -174,7 +179,7 @@ returns-in_ok-apply_alone-in-Applies-Alone-clause-memo g c =
     let m = memo_kept (length (g.F.Memo.trees old)) (g.F.Memo.right old) (g.F.Memo.right mid) (g.F.Memo.saved old) (g.F.Memo.saved mid) (g.F.Memo.count old) (g.F.Memo.count mid) s c.requires.memo c.requires.board.waits r.right r.count r.saved in
     let us = g.F.Memo.trees mid in
     let b = board_kept (g.F.Memo.trees old) us s c.args.turns.now.items r.extends r.distinct c.requires.board in
-    let added = λ (es : List Placed) (ls : List ℕ) (n : New) (a : AreKnown (length us) es) (l : n.formula < length us) (x : g.F.Memo.right mid es). g.met.F.Memo.added mid es ls n r.holds r.distinct a l x in
+    let added = λ (es : List Placed) (ls : List ℕ) (n : New) (a : AreKnown (length us) es) (l : n.formula < length us) (h : IsClosed (new_tree us n)) (x : g.F.Memo.right mid es). g.met.F.Memo.added mid es ls n r.holds r.distinct a l h x in
     let used = λ (es : List Placed) (live more : Bool) (i : ℕ) (v : (placed_at es i).live ≡ true) (x : g.F.Memo.right mid es). g.met.F.Memo.used mid es live more i r.holds v x in
     let w = g.F.Memo.fresh old in
     let d = subst (λ f. Decided w us s.now (Applies f)) c.in-Applies-Alone.field-0-is (subst (λ x. Decided w us s.now x) c.in-Applies-Alone.is r.decided) in
@@ -183,7 +188,7 @@ returns-in_ok-apply_alone-in-Applies-Alone-clause-memo g c =
     let ks = needs_of_all s.now u.named.items in
     let z = used_alone s u ns ks in
     subst (λ x. IsMemo (g.F.Memo.right mid) (g.F.Memo.saved mid) (g.F.Memo.count mid) x) (sym {b = z} c.in_ok-apply_alone-in-Applies-Alone.ensures.ok)
-    (memo_alone (g.F.Memo.right mid) (g.F.Memo.saved mid) (g.F.Memo.count mid) (length us) s u ns ks added used b.known d.1.1.lives d.1.2.under m)
+    (memo_alone (g.F.Memo.right mid) (g.F.Memo.saved mid) (g.F.Memo.count mid) us s u ns ks added used b.known d.1.1.lives d.1.2.under (sides_closed w us s.now (result_of us u (One (new_trees us ns))) b.closed d.1.0) m)
 
 pub returns-in_ok-place-in-Applies-Splits-clause-memo : goal.returns-in_ok-place-in-Applies-Splits-clause-memo
 returns-in_ok-place-in-Applies-Splits-clause-memo g c =
@@ -194,7 +199,7 @@ returns-in_ok-place-in-Applies-Splits-clause-memo g c =
     let m = memo_kept (length (g.F.Memo.trees old)) (g.F.Memo.right old) (g.F.Memo.right mid) (g.F.Memo.saved old) (g.F.Memo.saved mid) (g.F.Memo.count old) (g.F.Memo.count mid) s c.requires.memo c.requires.board.waits r.right r.count r.saved in
     let us = g.F.Memo.trees mid in
     let b = board_kept (g.F.Memo.trees old) us s c.args.turns.now.items r.extends r.distinct c.requires.board in
-    let added = λ (es : List Placed) (ls : List ℕ) (n : New) (a : AreKnown (length us) es) (l : n.formula < length us) (x : g.F.Memo.right mid es). g.met.F.Memo.added mid es ls n r.holds r.distinct a l x in
+    let added = λ (es : List Placed) (ls : List ℕ) (n : New) (a : AreKnown (length us) es) (l : n.formula < length us) (h : IsClosed (new_tree us n)) (x : g.F.Memo.right mid es). g.met.F.Memo.added mid es ls n r.holds r.distinct a l h x in
     let used = λ (es : List Placed) (live more : Bool) (i : ℕ) (v : (placed_at es i).live ≡ true) (x : g.F.Memo.right mid es). g.met.F.Memo.used mid es live more i r.holds v x in
     let w = g.F.Memo.fresh old in
     let new = c.put_off.new.self in
@@ -204,6 +209,7 @@ returns-in_ok-place-in-Applies-Splits-clause-memo g c =
     let ns = c.in-Applies-Splits.first.items in
     let ms = c.in-Applies-Splits.second.items in
     let ks = union (c.args.number ∷ []) (needs_of_all s.now u.named.items) in
+    let h = sides_closed w us s.now (result_of us u (Both (new_trees us ns) (new_trees us ms))) b.closed d.1.0 in
     let z = used_both s u ns ms ks in
     subst (λ x. IsMemo (g.F.Memo.right new) (g.F.Memo.saved new) (g.F.Memo.count new) x) (sym {b = z} c.in_ok-place-in-Applies-Splits.ensures.ok)
-    (memo_split (g.F.Memo.right mid) (g.F.Memo.right new) (g.F.Memo.saved mid) (g.F.Memo.saved new) (g.F.Memo.count mid) (g.F.Memo.count new) (length us) s u ns ms ks added used b.waits b.known d.1.1.lives d.1.2.under d.1.3.under d.1.4 m q.count q.right q.put q.saved)
+    (memo_split (g.F.Memo.right mid) (g.F.Memo.right new) (g.F.Memo.saved mid) (g.F.Memo.saved new) (g.F.Memo.count mid) (g.F.Memo.count new) us s u ns ms ks added used b.waits b.known d.1.1.lives d.1.2.under d.1.3.under h.0 h.1 (split_rule w us s.now (result_of us u (Both (new_trees us ns) (new_trees us ms))) (new_trees us ns) (new_trees us ms) b.closed d.1.0 refl) m q.count q.right q.put q.saved)

@@ -1,11 +1,12 @@
 use Rattle.std.proofs.Common.{ℕ, ◌<◌, List, length, subst}
 use Rattle.branch_state.specs.declared.parts.New.{New}
 use Rattle.branch_state.specs.Shown.{Placed}
+use Rattle.seq_calculus.specs.Calculus.{IsClosed}
 use Rattle.search_definition.specs.Search.{run, moves, start, search, steps, fresh}
 use Rattle.search_trace.specs.Traces.{moves_of}
 use Rattle.search_loop.specs.Turns.{Ends, StepsAre}
 use Rattle.branch_state.specs.Parts.{shown}
-use Rattle.tableau_search.specs.Entries.{tracked, AreKnown}
+use Rattle.tableau_search.specs.Entries.{tracked, new_tree, AreKnown}
 use Rattle.tableau_search.proofs.MemoLaws.{memo_start}
 use Rattle.tableau_search.proofs.BoardLaws.{board_start, state_start, ended, items_under}
 use Rattle.tableau_search.proofs.outcome.solve.Goals as goal
@@ -17,11 +18,11 @@ search-requires-clause-holds g c =
     let s = shown c.in_ok-parts.parts in
     let ms = c.args.formulas.now in
     let q = c.requires in
-    let added = λ (es : List Placed) (ls : List ℕ) (n : New) (a : AreKnown (length ts) es) (l : n.formula < length ts) (x : g.F.Memo.right f es). g.met.F.Memo.added f es ls n q.holds q.distinct a l x in (
+    let added = λ (es : List Placed) (ls : List ℕ) (n : New) (a : AreKnown (length ts) es) (l : n.formula < length ts) (h : IsClosed (new_tree ts n)) (x : g.F.Memo.right f es). g.met.F.Memo.added f es ls n q.holds q.distinct a l h x in (
       q.holds,
       c.in_ok-parts.ensures.held,
-      board_start ts s c.new.result.items ms q.distinct q.known c.in_ok-parts.ensures.shown c.new.ensures.items,
-      memo_start (g.F.Memo.right f) (g.F.Memo.saved f) (g.F.Memo.count f) (length ts) s ms added q.known q.right q.count c.in_ok-parts.ensures.shown,
+      board_start ts s c.new.result.items ms q.distinct q.known q.closed c.in_ok-parts.ensures.shown c.new.ensures.items,
+      memo_start (g.F.Memo.right f) (g.F.Memo.saved f) (g.F.Memo.count f) ts s ms added q.known q.closed q.right q.count c.in_ok-parts.ensures.shown,
     )
 
 pub returns-clause-ends : goal.returns-clause-ends

@@ -1,4 +1,5 @@
 use Rattle.branch_state.specs.Parts.{shown}
+use Rattle.tableau_search.proofs.ClosedLaws.{closed_kept}
 use Rattle.tableau_search.proofs.MemoLaws.{stays_on}
 use Rattle.tableau_search.proofs.RankLaws.{known_more, decided_found, decided_none, open_branch}
 use Rattle.tableau_search.proofs.ranks.decide.Goals as goal
@@ -44,3 +45,7 @@ returns-in-None-2-clause-saved g c =
     let q = c.in_ok-closing.ensures in
     let r = c.in_ok-found-in-None.ensures in
     stays_on (g.R.Memo.trees c.args.ranks.now) (g.R.Memo.trees c.close.new.self) (g.R.Memo.count c.args.ranks.now) (g.R.Memo.count c.close.new.self) (g.R.Memo.saved c.args.ranks.now) (g.R.Memo.saved c.close.new.self) (g.R.Memo.saved c.first_of.new.ranks) q.extends q.count q.saved r.saved
+
+pub first_of-requires-clause-closed : goal.first_of-requires-clause-closed
+first_of-requires-clause-closed g c =
+    closed_kept (g.R.Memo.trees c.args.ranks.now) (g.R.Memo.trees c.close.new.self) (shown c.args.parts.now).now c.in_ok-closing.ensures.extends c.requires.known c.requires.closed

@@ -3,6 +3,7 @@ use Rattle.branch_state.specs.Parts.{shown}
 use Rattle.tableau_search.specs.Entries.{branch_of}
 use Rattle.search_definition.specs.Branches.{closing}
 use Rattle.tableau_search.proofs.LiftLaws.{branch_kept}
+use Rattle.tableau_search.proofs.ClosedLaws.{closed_kept}
 use Rattle.tableau_search.proofs.MemoLaws.{stays_on}
 use Rattle.tableau_search.specs.Growing.{extends_on}
 use Rattle.tableau_search.proofs.RankLaws.{answer_none, answer_some, rank_none, rank_some, known_more}
@@ -25,6 +26,7 @@ loop-rank-preserved g c =
       count = r.count ∙ v.count;
       saved = stays_on (g.R.Memo.trees c.args.ranks.now) ts (g.R.Memo.count c.args.ranks.now) (g.R.Memo.count c.loop-rank.ranks) (g.R.Memo.saved c.args.ranks.now) (g.R.Memo.saved c.loop-rank.ranks) (g.R.Memo.saved c.rank.new.self) v.extends v.count v.saved r.saved;
       shut = ap closing (branch_kept ts us es r.extends v.known) ∙ v.shut;
+      closed = closed_kept ts us es r.extends v.known v.closed;
       known = known_more ts us es r.extends v.known;
       same = rank_none (g.R.Memo.fresh c.loop-rank.ranks) (g.R.Memo.fresh c.args.ranks.now) (branch_of us es) (branch_of ts es) c.args.order.now c.loop-rank.rank-index _ c.loop-rank-test.true v.fresh (branch_kept ts us es r.extends v.known) e v.same;
     }

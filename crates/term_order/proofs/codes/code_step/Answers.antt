@@ -4,7 +4,8 @@ use Rattle.core_expr.specs.Nodes.{AreBelow}
 use Rattle.term_bank.specs.Banks.{HasNode}
 use Rattle.term_bank.specs.Slots.{node_of}
 use Rattle.term_walks.specs.Places.{IsPlace}
-use Rattle.term_order.proofs.CodeLaws.{head_less, number_less, some_apart, compares, still_apart, place_some, part_below}
+use Rattle.term_walks.proofs.PlaceLaws.{part_below}
+use Rattle.term_order.proofs.CodeLaws.{head_less, number_less, some_apart, compares, still_apart, place_some}
 use Rattle.term_order.proofs.codes.code_step.Goals as goal
 
 pub returns-then-a-b : goal.returns-then-a-b

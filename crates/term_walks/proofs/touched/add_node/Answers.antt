@@ -1,8 +1,9 @@
+use Rattle.term_bank.proofs.MarkLaws.{on_ok}
 use Rattle.std.proofs.Common.{rules}
 use Rattle.core_expr.specs.Nodes.{AreBelow}
 use Rattle.term_bank.specs.Banks.{HasNode}
 use Rattle.term_bank.specs.Slots.{node_of}
-use Rattle.term_walks.proofs.WalkLaws.{on_ok, added_of}
+use Rattle.term_walks.proofs.WalkLaws.{added_of}
 use Rattle.term_walks.proofs.touched.add_node.Goals as goal
 
 pub returns : goal.returns

@@ -1,4 +1,5 @@
-use Rattle.term_walks.proofs.WalkLaws.{on_ok, turn_of}
+use Rattle.term_bank.proofs.MarkLaws.{on_ok}
+use Rattle.term_walks.proofs.WalkLaws.{turn_of}
 use Rattle.term_walks.proofs.touched.add_open.Goals as goal
 
 pub returns : goal.returns

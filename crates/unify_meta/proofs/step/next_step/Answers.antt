@@ -8,7 +8,8 @@ use Rattle.unify_meta.specs.Metas.{symbols}
 use Rattle.term_walks.specs.Places.{IsPlace}
 use Rattle.unify_meta.specs.Disagreements.{is_listing}
 use Rattle.unify_meta.proofs.DifferLaws.{other_heads, other_numbers}
-use Rattle.unify_meta.proofs.StepLaws.{goes_below, ends_short, part_below}
+use Rattle.term_walks.proofs.PlaceLaws.{part_below}
+use Rattle.unify_meta.proofs.StepLaws.{goes_below, ends_short}
 use Rattle.unify_meta.proofs.step.next_step.Goals as goal
 
 pub returns-then-a-b : goal.returns-then-a-b
