@@ -58,8 +58,8 @@ link_kept ts ts' i (Joined c p q) x li b = λ j. Joining c (tree-extend ts ts' p
 work_kept : (ts ts' : List Tree) (b : Branch) (i : ℕ) (w : Work) → Extends ts ts' → i < length ts → IsWork ts b i w → IsWork ts' b i w
 work_kept ts ts' b i (Known r) x l h = (
   ap (truth b) (tree-extend ts ts' i x l) ∙ h.0,
-  ap (grounds b) (tree-extend ts ts' i x l) ∙ h.1 ∙ sym (trees_kept ts ts' (ground_list r.ground) x h.2),
-  AreBelow-more (length ts) (length ts') (ground_list r.ground) (longer ts ts' x) h.2,
+  ap (grounds b) (tree-extend ts ts' i x l) ∙ h.1 ∙ sym (trees_kept ts ts' (ground_list r.basis) x h.2),
+  AreBelow-more (length ts) (length ts') (ground_list r.basis) (longer ts ts' x) h.2,
 )
 work_kept ts ts' b i (Linked k) x l h = (
   ap (truth b) (tree-extend ts ts' i x l) ∙ h.0 ∙ ap (linking_truth b) (sym (link_kept ts ts' i k x l h.2)),

@@ -56,7 +56,7 @@ pub not_mirror_stood : (ts : List Tree) (b : Branch) (t : Tree) (k : ℕ) (r : O
 not_mirror_stood ts b t k r m h = subst (λ x. Stood ts x (not_ (mirror t)) r) (at_not_mirror b t m.0) (subst (λ u. Stood ts (has b (not_ u)) (not_ u) r) m.1.tree h)
 
 -- what gives the value as a whole
-gives_by : (ts : List Tree) (b : Branch) (t : Tree) (w : Whole) (r : Reason) → whole b t ≡ w → ((y : Truth) → truth_by w y ≡ truth_of r.value) → ((gs : List Tree) → grounds_by w t gs ≡ trees_at ts (ground_list r.ground)) → AreBelow (length ts) (ground_list r.ground) → Gives ts b t r
+gives_by : (ts : List Tree) (b : Branch) (t : Tree) (w : Whole) (r : Reason) → whole b t ≡ w → ((y : Truth) → truth_by w y ≡ truth_of r.value) → ((gs : List Tree) → grounds_by w t gs ≡ trees_at ts (ground_list r.basis)) → AreBelow (length ts) (ground_list r.basis) → Gives ts b t r
 gives_by ts b t w r e f g l = record { value = λ y. ap (λ v. truth_by v y) e ∙ f y; grounds = λ gs. ap (λ v. grounds_by v t gs) e ∙ g gs; below = l }
 
 abbrev whole_by : Bool → Bool → Bool → Bool → Bool → Bool → Whole

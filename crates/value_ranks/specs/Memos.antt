@@ -79,7 +79,7 @@ link_grounds f g (Denied a) = g a
 link_grounds f g (Joined c x y) = numbers_known (joined_truth c (f x) (f y)) (merged_numbers (g x) (g y))
 
 abbrev pub work_grounds : (ℕ → Truth) → (ℕ → List ℕ) → Work → List ℕ
-work_grounds f g (Known r) = ground_list r.ground
+work_grounds f g (Known r) = ground_list r.basis
 work_grounds f g (Linked l) = link_grounds f g l
 
 -- what is kept is the value of the formula

@@ -16,7 +16,7 @@ use Rattle.value_ranks.specs.Reasons.{ground_list}
 
 -- what is to be done gives the value and the grounds of the formula
 abbrev pub IsWork : List Tree → Branch → ℕ → Work → Type 0
-IsWork ts b i (Known r) = (truth b (tree_at ts i) ≡ truth_of r.value) × (grounds b (tree_at ts i) ≡ trees_at ts (ground_list r.ground)) × AreBelow (length ts) (ground_list r.ground)
+IsWork ts b i (Known r) = (truth b (tree_at ts i) ≡ truth_of r.value) × (grounds b (tree_at ts i) ≡ trees_at ts (ground_list r.basis)) × AreBelow (length ts) (ground_list r.basis)
 IsWork ts b i (Linked l) = (truth b (tree_at ts i) ≡ linking_truth b (link_trees ts l)) × (grounds b (tree_at ts i) ≡ linking_grounds b (link_trees ts l)) × AreBelow i (link_parts l)
 
 -- the formulas whose value is needed first

@@ -33,8 +33,8 @@ ground_list None = []
 ground_list (Some k) = k ∷ []
 
 abbrev pub reason : Bool → Option ℕ → Reason
-reason true g = record { value = Yes; ground = g }
-reason false g = record { value = No; ground = g }
+reason true g = record { value = Yes; basis = g }
+reason false g = record { value = No; basis = g }
 
 -- the first reason that fits the formula at i: whether it stands; is true by itself; its mirror that stands; its Not that stands; whether it is false by itself; and the Not of its mirror that stands
 abbrev pub first_reason : Bool → Bool → Option ℕ → Option ℕ → Bool → Option ℕ → ℕ → Option Reason
@@ -49,8 +49,8 @@ first_reason false false None None false None i = None
 -- the reason gives the value and the grounds of the formula as a whole
 pub record Gives (ts : List Tree) (b : Branch) (t : Tree) (r : Reason) : Type 0 where
   pub value : (y : Truth) → truth_by (whole b t) y ≡ truth_of r.value
-  pub grounds : (gs : List Tree) → grounds_by (whole b t) t gs ≡ trees_at ts (ground_list r.ground)
-  pub below : AreBelow (length ts) (ground_list r.ground)
+  pub grounds : (gs : List Tree) → grounds_by (whole b t) t gs ≡ trees_at ts (ground_list r.basis)
+  pub below : AreBelow (length ts) (ground_list r.basis)
 
 -- the reason for which the formula has a value as a whole, if it has one
 abbrev pub IsReason : List Tree → Branch → Tree → Option Reason → Type 0

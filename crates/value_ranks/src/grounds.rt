@@ -103,10 +103,10 @@ fn link_grounds(
 }
 
 /// The formula that a reason rests on, if it rests on one.
-fn reason_grounds(alloc: Global, ground: Option<u64>) -> Result<Vec<u64>, Memory>
-    ensures { IfOk result (λ v. v.items ≡ ground_list ground) }
+fn reason_grounds(alloc: Global, basis: Option<u64>) -> Result<Vec<u64>, Memory>
+    ensures { IfOk result (λ v. v.items ≡ ground_list basis) }
 {
-    match ground {
+    match basis {
         Some(k) => Ok(Vec::from_slice(alloc, &[k])?),
         None => Ok(Vec::new(alloc)),
     }
@@ -123,7 +123,7 @@ fn work_grounds(
         (kept_grounds grounds.now.entries) work) }
 {
     match work {
-        Work::Known(reason) => reason_grounds(alloc, reason.ground),
+        Work::Known(reason) => reason_grounds(alloc, reason.basis),
         Work::Linked(link) => link_grounds(alloc, values, grounds, link),
     }
 }

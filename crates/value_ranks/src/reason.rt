@@ -22,7 +22,7 @@ use term_shapes::{Shape, make, seek, shape_at};
 #[derive(Clone, Copy, Debug)]
 pub struct Reason {
     pub value: Value,
-    pub ground: Option<u64>,
+    pub basis: Option<u64>,
 }
 
 /// Whether the formula is TRUE or `t = t`.
@@ -122,10 +122,10 @@ fn standing_mirror_denial(bank: &Bank, parts: &Parts, i: u64, mirrored: Option<u
 }
 
 /// The reason that this formula on the branch, or none, gives for a value.
-fn given_by(value: Value, ground: Option<u64>) -> Option<Reason>
-    ensures { result ≡ Some (record { value = value; ground = ground }) }
+fn given_by(value: Value, basis: Option<u64>) -> Option<Reason>
+    ensures { result ≡ Some (record { value = value; basis = basis }) }
 {
-    Some(Reason { value, ground })
+    Some(Reason { value, basis })
 }
 
 /// The reason against the formula at an index: its Not that stands; whether it is false by itself; the Not of its mirror.
