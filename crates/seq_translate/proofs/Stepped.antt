@@ -50,8 +50,8 @@ module _ (ts us : List Tree) (same : (i : ℕ) → i < length ts → get_or us i
 module _ (ts : List Tree) (distinct : IsDistinct ts) where
   -- the second side of a split is done
   pub second_state :
-    (turns : List Turn) (n : ℕ) (ms : List Bool) (ss : List Second) (w : Written) (s : State) → TurnsUnder (length ts) turns → IsState ts ms ss w s
-    → IsState ts (clear_marks ms (second_at turns n)) (ss ++ record { number = n; needed = any_mark ms (second_at turns n) } ∷ []) w (second_by n (second_news (move_at (moves_of ts turns) n)) s)
+      (turns : List Turn) (n : ℕ) (ms : List Bool) (ss : List Second) (w : Written) (s : State) → TurnsUnder (length ts) turns → IsState ts ms ss w s
+      → IsState ts (clear_marks ms (second_at turns n)) (ss ++ record { number = n; needed = any_mark ms (second_at turns n) } ∷ []) w (second_by n (second_news (move_at (moves_of ts turns) n)) s)
   second_state turns n ms ss w s under h =
       let news : List Tree = second_news (move_at (moves_of ts turns) n) in
       let below : AreBelow (length ts) (second_at turns n) = second-below (length ts) turns n under in
@@ -59,18 +59,18 @@ module _ (ts : List Tree) (distinct : IsDistinct ts) where
       record {
         marks = subst (λ (l : List Tree). AreMarks ts (clear_marks ms (second_at turns n)) (unmarked s.marks l)) e (clear-all ts distinct ms s.marks (second_at turns n) below h.marks);
         seconds =
-          laid-last [] ss (record { number = n; needed = any_mark ms (second_at turns n) })
-          ∙ ap (λ (l : List SecondSide). record { number = n; needed = any_mark ms (second_at turns n) } ∷ l) h.seconds
-          ∙ ap (λ (x : Bool). record { number = n; needed = x } ∷ s.parts.seconds) (any-some ts distinct ms s.marks (second_at turns n) below h.marks ∙ ap (λ (l : List Tree). some s.marks l) e);
+            laid-last [] ss (record { number = n; needed = any_mark ms (second_at turns n) })
+            ∙ ap (λ (l : List SecondSide). record { number = n; needed = any_mark ms (second_at turns n) } ∷ l) h.seconds
+            ∙ ap (λ (x : Bool). record { number = n; needed = x } ∷ s.parts.seconds) (any-some ts distinct ms s.marks (second_at turns n) below h.marks ∙ ap (λ (l : List Tree). some s.marks l) e);
         proofs = h.proofs;
         more = h.more;
         same = h.same;
       }
 
   pub resumed_state :
-    (turns : List Turn) (next : Option ℕ) (n : ℕ) (ms ns : List Bool) (ss us : List Second) (w : Written) (s : State) → TurnsUnder (length ts) turns → IsState ts ms ss w s
-    → next ≡ Some n → ns ≡ clear_marks ms (second_at turns n) → us ≡ ss ++ record { number = n; needed = any_mark ms (second_at turns n) } ∷ []
-    → IsState ts ns us w (resumed (moves_of ts turns) next s)
+      (turns : List Turn) (next : Option ℕ) (n : ℕ) (ms ns : List Bool) (ss us : List Second) (w : Written) (s : State) → TurnsUnder (length ts) turns → IsState ts ms ss w s
+      → next ≡ Some n → ns ≡ clear_marks ms (second_at turns n) → us ≡ ss ++ record { number = n; needed = any_mark ms (second_at turns n) } ∷ []
+      → IsState ts ns us w (resumed (moves_of ts turns) next s)
   resumed_state turns next n ms ns ss us w s under h e f g =
       subst (λ (x : Option ℕ). IsState ts ns us w (resumed (moves_of ts turns) x s)) (sym e)
       (subst (λ (l : List Bool). IsState ts l us w (resumed (moves_of ts turns) (Some n) s)) (sym f)
@@ -78,9 +78,9 @@ module _ (ts : List Tree) (distinct : IsDistinct ts) where
 
   -- a closing
   pub shut_state :
-    (k : Clash) (es : List ℕ) (ms : List Bool) (ss : List Second) (w v : Written) (s : State) → AreUnder (length ts) es → IsState ts ms ss w s → count w ≤ count v
-    → ((i : ℕ) → i < count w → tree_at v i ≡ tree_at w i) → opens v ≡ entries_by k (picked w.trees es) ∷ opens w
-    → IsState ts (set_marks ms es) ss v (shut_by (record { clash = k; entries = map (at ts) es }) s)
+      (k : Clash) (es : List ℕ) (ms : List Bool) (ss : List Second) (w v : Written) (s : State) → AreUnder (length ts) es → IsState ts ms ss w s → count w ≤ count v
+      → ((i : ℕ) → i < count w → tree_at v i ≡ tree_at w i) → opens v ≡ entries_by k (picked w.trees es) ∷ opens w
+      → IsState ts (set_marks ms es) ss v (shut_by (record { clash = k; entries = map (at ts) es }) s)
   shut_state k es ms ss w v s under h more same o =
       record {
         marks = subst (λ (l : List Tree). AreMarks ts (set_marks ms es) (marked s.marks l)) (map-picked ts es) (set-all ts distinct ms s.marks es (under_below (length ts) es under) h.marks);
@@ -92,10 +92,10 @@ module _ (ts : List Tree) (distinct : IsDistinct ts) where
 
   -- a rule with one side whose news are used
   pub one_state :
-    (u : Used) (as' : List Added) (ms : List Bool) (ss : List Second) (w v : Written) (s : State) → UsedUnder (length ts) u → AddedUnder (length ts) as' → IsState ts ms ss w s
-    → any_mark ms (news_of as') ≡ true → count w ≤ count v → ((i : ℕ) → i < count w → tree_at v i ≡ tree_at w i)
-    → opens v ≡ by (result_of w.trees u (Alone (added_trees w.trees as'))) (first_of (opens w) ∷ []) ∷ rest_of (opens w)
-    → IsState ts (set_marks (clear_marks ms (news_of as')) u.named.items) ss v (one_by (result_of ts u (Alone (added_trees ts as'))) (picks (added_trees ts as') (flags as')) s)
+      (u : Used) (as' : List Added) (ms : List Bool) (ss : List Second) (w v : Written) (s : State) → UsedUnder (length ts) u → AddedUnder (length ts) as' → IsState ts ms ss w s
+      → any_mark ms (news_of as') ≡ true → count w ≤ count v → ((i : ℕ) → i < count w → tree_at v i ≡ tree_at w i)
+      → opens v ≡ by (result_of w.trees u (Alone (added_trees w.trees as'))) (first_of (opens w) ∷ []) ∷ rest_of (opens w)
+      → IsState ts (set_marks (clear_marks ms (news_of as')) u.named.items) ss v (one_by (result_of ts u (Alone (added_trees ts as'))) (picks (added_trees ts as') (flags as')) s)
   one_state u as' ms ss w v s under added h found more same o =
       let news : List Tree = picks (added_trees ts as') (flags as') in
       let r : Result = result_of ts u (Alone (added_trees ts as')) in
@@ -103,18 +103,18 @@ module _ (ts : List Tree) (distinct : IsDistinct ts) where
       let e : picked ts (news_of as') ≡ news = news-picks ts as' in
       let found' : true ≡ some s.marks news = sym found ∙ any-some ts distinct ms s.marks (news_of as') below h.marks ∙ ap (λ (l : List Tree). some s.marks l) e in
       let cleared : AreMarks ts (clear_marks ms (news_of as')) (unmarked s.marks news) =
-          subst (λ (l : List Tree). AreMarks ts (clear_marks ms (news_of as')) (unmarked s.marks l)) e (clear-all ts distinct ms s.marks (news_of as') below h.marks) in
+      subst (λ (l : List Tree). AreMarks ts (clear_marks ms (news_of as')) (unmarked s.marks l)) e (clear-all ts distinct ms s.marks (news_of as') below h.marks) in
       subst (λ (x : Bool). IsState ts (set_marks (clear_marks ms (news_of as')) u.named.items) ss v (if_so x (used_state r news) s)) found'
       (record {
         marks =
-          subst (λ (l : List Tree). AreMarks ts (set_marks (clear_marks ms (news_of as')) u.named.items) (marked (unmarked s.marks news) l)) (map-picked ts u.named.items)
-          (set-all ts distinct (clear_marks ms (news_of as')) (unmarked s.marks news) u.named.items (under_below (length ts) u.named.items under.0) cleared);
+            subst (λ (l : List Tree). AreMarks ts (set_marks (clear_marks ms (news_of as')) u.named.items) (marked (unmarked s.marks news) l)) (map-picked ts u.named.items)
+            (set-all ts distinct (clear_marks ms (news_of as')) (unmarked s.marks news) u.named.items (under_below (length ts) u.named.items under.0) cleared);
         seconds = h.seconds;
         proofs =
-          o
-          ∙ ap (λ (q : Result). by q (first_of (opens w) ∷ []) ∷ rest_of (opens w))
-          (result-same ts w.trees h.same u (Alone (added_trees w.trees as')) (Alone (added_trees ts as')) under (ap (λ l. Alone l) (added-same ts w.trees h.same as' added)))
-          ∙ ap (λ l. by r (first_of l ∷ []) ∷ rest_of l) h.proofs;
+            o
+            ∙ ap (λ (q : Result). by q (first_of (opens w) ∷ []) ∷ rest_of (opens w))
+            (result-same ts w.trees h.same u (Alone (added_trees w.trees as')) (Alone (added_trees ts as')) under (ap (λ l. Alone l) (added-same ts w.trees h.same as' added)))
+            ∙ ap (λ l. by r (first_of l ∷ []) ∷ rest_of l) h.proofs;
         more = let a = h.more in omega (arith, a, more);
         same = λ i l. let a = h.more in same i (omega (arith, a, l)) ∙ h.same i l;
       })
@@ -124,8 +124,8 @@ module _ (ts : List Tree) (distinct : IsDistinct ts) where
 
   -- one whose news are not
   pub idle_state :
-    (u : Used) (as' : List Added) (ms : List Bool) (ss : List Second) (w : Written) (s : State) → AddedUnder (length ts) as' → IsState ts ms ss w s
-    → any_mark ms (news_of as') ≡ false → IsState ts ms ss w (one_by (result_of ts u (Alone (added_trees ts as'))) (picks (added_trees ts as') (flags as')) s)
+      (u : Used) (as' : List Added) (ms : List Bool) (ss : List Second) (w : Written) (s : State) → AddedUnder (length ts) as' → IsState ts ms ss w s
+      → any_mark ms (news_of as') ≡ false → IsState ts ms ss w (one_by (result_of ts u (Alone (added_trees ts as'))) (picks (added_trees ts as') (flags as')) s)
   idle_state u as' ms ss w s added h found =
       let news : List Tree = picks (added_trees ts as') (flags as') in
       let below : AreBelow (length ts) (news_of as') = news-below (length ts) as' added in

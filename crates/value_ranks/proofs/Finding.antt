@@ -95,7 +95,7 @@ closed_at ts us es i x a c l = subst (IsScoped 0) (sym (tree_kept ts us (placed_
 
 -- no entry before the next fits
 none_next : (rule : Tree → Option Step) (k : ℕ) (b : Branch) → NoneBefore rule k b → ((entry_at b k).live ≡ true → rule (entry_at b k).formula ≡ None) → NoneBefore rule (k + 1) b
-none_next rule k b n h j l m a = elim (cases_lt j k) [ | inl z ↦ n j z m a | inr z ↦ same (omega arith) ]
+none_next rule k b n h j l m a = elim (cases_lt j k) [ inl z ↦ n j z m a | inr z ↦ same (omega arith) ]
   where
     same : j ≡ k → rule (entry_at b j).formula ≡ None
     same e = subst (λ i. (entry_at b i).live ≡ true → rule (entry_at b i).formula ≡ None) (sym e) h a

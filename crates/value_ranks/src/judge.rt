@@ -35,12 +35,7 @@ pub fn value_on(bank: &mut Bank, alloc: Global, parts: &Parts, f: u64) -> Result
 
 /// The formulas on the branch that the value of the formula at an index rests on, each once, in the order in which they are
 /// found: none where the value is not known.
-pub fn grounds_on(
-    bank: &mut Bank,
-    alloc: Global,
-    parts: &Parts,
-    f: u64,
-) -> Result<Vec<u64>, Memory>
+pub fn grounds_on(bank: &mut Bank, alloc: Global, parts: &Parts, f: u64) -> Result<Vec<u64>, Memory>
     requires within { f < length bank.old }
     requires held { Holds parts.now }
     requires known { AreKnown (length bank.old) (shown parts.now).now }

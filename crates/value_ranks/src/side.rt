@@ -39,12 +39,7 @@ fn side_with(side: Side, f: u64, value: Value) -> Side
 }
 
 /// The values of the formulas of a side.
-pub fn side_on(
-    bank: &mut Bank,
-    alloc: Global,
-    parts: &Parts,
-    list: &[u64],
-) -> Result<Side, Memory>
+pub fn side_on(bank: &mut Bank, alloc: Global, parts: &Parts, list: &[u64]) -> Result<Side, Memory>
     requires below { AreBelow (length bank.old) list.now }
     requires held { Holds parts.now }
     requires known { AreKnown (length bank.old) (shown parts.now).now }

@@ -17,5 +17,5 @@ returns-clause-ok g c =
     let e : c.set_all.new.marks.items ≡ set_marks c.args.marks.now.items es = search rules in
     let o : opens v ≡ entries_by c.args.case (picked w.trees es) ∷ opens w = search rules in
     λ ts ss s distinct under h.
-      subst (λ (l : List Bool). IsState ts l ss v (shut_by (record { clash = c.args.case; entries = map (at ts) es }) s)) (sym e)
-      (shut_state ts distinct c.args.case es c.args.marks.now.items ss w v s under h c.close.ensures.more c.close.ensures.same o)
+    subst (λ (l : List Bool). IsState ts l ss v (shut_by (record { clash = c.args.case; entries = map (at ts) es }) s)) (sym e)
+    (shut_state ts distinct c.args.case es c.args.marks.now.items ss w v s under h c.close.ensures.more c.close.ensures.same o)
