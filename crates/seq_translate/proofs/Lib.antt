@@ -1,4 +1,3 @@
 pub mod Marked
 pub mod Newly
 pub mod Stepped
-pub mod Taken

@@ -1,4 +1,3 @@
 pub mod Marks
 pub mod News
 pub mod States
-pub mod Sides

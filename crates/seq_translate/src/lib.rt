@@ -5,6 +5,5 @@ mod fill;
 mod marks;
 mod news;
 mod rules;
-mod split;
 mod state;
 mod turn;
