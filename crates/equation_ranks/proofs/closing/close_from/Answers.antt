@@ -1,6 +1,7 @@
 use Rattle.std.proofs.Common.{◌<◌, length, arith}
 use Rattle.branch_state.specs.Parts.{shown}
-use Rattle.tableau_search.proofs.RankLaws.{known_more, extends_on}
+use Rattle.tableau_search.proofs.RankLaws.{known_more}
+use Rattle.tableau_search.specs.Growing.{extends_on}
 use Rattle.equation_ranks.proofs.ClosingLaws.{open_kept, entry_open, entry_closes}
 use Rattle.equation_ranks.proofs.closing.close_from.Goals as goal
 

@@ -2,7 +2,8 @@ use Rattle.std.proofs.Common.{◌<◌, ◌≤◌, length, arith, Some, add-one}
 use Rattle.search_definition.specs.declared.rule.Rank.TheVariants as rank
 use Rattle.search_definition.specs.Plain.{rewrite}
 use Rattle.branch_state.specs.Parts.{shown}
-use Rattle.tableau_search.proofs.RankLaws.{known_more, extends_on}
+use Rattle.tableau_search.proofs.RankLaws.{known_more}
+use Rattle.tableau_search.specs.Growing.{extends_on}
 use Rattle.equation_ranks.proofs.ReplaceLaws.{adds_closed, closed_kept, none_kept, none_here, none_before, oldest_nowhere}
 use Rattle.equation_ranks.proofs.RewriteLaws.{entry_found, none_after, position_here, position_end}
 use Rattle.equation_ranks.proofs.rewriting.rewrite_from.Goals as goal
