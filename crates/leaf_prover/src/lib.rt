@@ -2,7 +2,7 @@
 //!
 //! To the layer above this crate promises:
 //! - [`is_form`] says exactly whether the facts and the goal are closed expressions over canonical symbols without a temporal mark: those
-//!   that the search over shared nodes can take. [`unused_symbols`] gives the symbols that the search may use beside theirs.
+//!   that the search over shared nodes can take.
 //! - What answers mean, of the definition in `specs/Answers.antt`: the goal of a proved form has a derivation from its facts
 //!   ([`proved_derives`]), values that are found falsify their form ([`values_are_right`]), and with enough turns a propositional form is
 //!   proved exactly where nothing falsifies it ([`enough_turns_decide`]).
@@ -11,9 +11,7 @@
 mod answer;
 mod form;
 mod laws;
-mod unused;
 
 pub use answer::Answer;
 pub use form::is_form;
 pub use laws::{enough_turns_decide, proved_derives, values_are_right};
-pub use unused::{Unused, unused_symbols};

@@ -1,3 +1,4 @@
 pub mod Marked
 pub mod Newly
 pub mod Stepped
+pub mod Taken

@@ -1,3 +1,4 @@
 pub mod Marks
 pub mod News
 pub mod States
+pub mod Sides

@@ -5,5 +5,6 @@ mod fill;
 mod marks;
 mod news;
 mod rules;
+mod split;
 mod state;
 mod turn;

@@ -22,7 +22,7 @@ fn is_marked(marks: &[bool], place: usize) -> bool
 }
 
 /// The first or the second.
-fn either(a: bool, b: bool) -> bool
+pub fn either(a: bool, b: bool) -> bool
     ensures { result ≡ (a || b) }
 {
     a || b

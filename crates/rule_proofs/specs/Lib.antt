@@ -1,0 +1,4 @@
+pub mod Cases
+pub mod Lefts
+pub mod Values
+pub mod Shown
