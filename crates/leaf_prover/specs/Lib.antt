@@ -1,3 +1,4 @@
+pub mod Fresh
 pub mod Forms
 pub mod Answers
 pub mod Laws

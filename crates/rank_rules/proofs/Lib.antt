@@ -1,3 +1,4 @@
 pub mod Entries
 pub mod HasLaws
 pub mod DeriveLaws
+pub mod ShutLaws

@@ -2,3 +2,5 @@ pub mod Marked
 pub mod Newly
 pub mod Stepped
 pub mod Taken
+pub mod Ran
+pub mod Proved

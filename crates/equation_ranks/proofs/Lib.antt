@@ -1,0 +1,5 @@
+pub mod PlaceLaws
+pub mod ClosingLaws
+pub mod ReplaceLaws
+pub mod RewriteLaws
+pub mod PositionLaws

@@ -1,0 +1,4 @@
+pub mod Partners
+pub mod Replacing
+pub mod Rewriting
+pub mod Kept

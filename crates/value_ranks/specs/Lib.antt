@@ -1,0 +1,6 @@
+pub mod Judging
+pub mod Reasons
+pub mod Plans
+pub mod Memos
+pub mod Sides
+pub mod Answers
