@@ -16,8 +16,6 @@ mod term;
 pub use atoms::{own_atoms, partner_atoms};
 pub use fresh::{FreshNumbers, SignedAtom};
 pub use metas::{both_metas, own_metas};
-pub use partners::{
-    literal_term, literal_term_by, sides_term, signed_literal, signed_term, signed_term_by,
-};
+pub use partners::{literal_term, sides_term, signed_literal, signed_term};
 pub use sides::is_side;
 pub use term::{instance_term, spare_term};

@@ -2,9 +2,8 @@
 ghost use Rattle.std.specs.Prelude.{◌≡◌, ◌<◌, length, IfOk};
 ghost use Rattle.term_bank.specs.Banks.{IsDistinct, Extends, tree_at};
 ghost use Rattle.search_definition.specs.Instances.{signed_literal, sides_term, signed_term, literal_term, are_opposite};
-ghost use Rattle.unify_meta.specs.Metas.{symbols};
 ghost use Rattle.formula_rules.specs.Answers.{HasTerm};
-ghost use Rattle.instance_terms.specs.Fresh.{fresh_of, signed_of, both_of};
+ghost use Rattle.instance_terms.specs.Fresh.{fresh_of, signed_of};
 
 use crate::fresh::{FreshNumbers, SignedAtom};
 use crate::metas::{both_metas, own_metas};
@@ -20,7 +19,6 @@ pub fn signed_literal(bank: &Bank, f: u64) -> SignedAtom
     requires { f < length bank.now }
     ensures signed { signed_of bank.now result ≡ signed_literal (tree_at bank.now f) }
     ensures below { result.atom < length bank.now }
-    ensures metas { result.metas ≡ 0 }
 {
     match shape_at(bank, f) {
         Shape::Not(a) => SignedAtom {
@@ -62,30 +60,6 @@ pub fn sides_term(
     }
 }
 
-/// What an atom of opposite sign gives, where the metavariables of both are at hand.
-pub fn signed_term_by(
-    bank: &mut Bank,
-    alloc: Global,
-    w: FreshNumbers,
-    metas: &[u64],
-    a: SignedAtom,
-    c: SignedAtom,
-) -> Result<Option<u64>, Memory>
-    requires own { a.atom < length bank.old }
-    requires partner { c.atom < length bank.old }
-    requires metas { symbols metas.now ≡ both_of (fresh_of w) a.metas c.metas }
-    ensures extends { Extends bank.old bank.new }
-    ensures distinct { IsDistinct bank.new }
-    ensures ok { IfOk result (λ o. HasTerm bank.new o
-        (signed_term (fresh_of w) (signed_of bank.old a) (signed_of bank.old c))) }
-{
-    bank.count();
-    if a.holds == c.holds {
-        return Ok(None);
-    }
-    instance_term(bank, alloc, w, metas, a.atom, c.atom)
-}
-
 /// What an atom of opposite sign gives.
 pub fn signed_term(
     bank: &mut Bank,
@@ -106,33 +80,7 @@ pub fn signed_term(
         return Ok(None);
     }
     let metas = both_metas(alloc, w, a.metas, c.metas)?;
-    signed_term_by(bank, alloc, w, metas.as_slice(), a, c)
-}
-
-/// What a literal of opposite sign gives, where the metavariables of the atom are at hand: those of the atom and of a partner
-/// that has none.
-pub fn literal_term_by(
-    bank: &mut Bank,
-    alloc: Global,
-    w: FreshNumbers,
-    metas: &[u64],
-    a: SignedAtom,
-    f: u64,
-) -> Result<Option<u64>, Memory>
-    requires own { a.atom < length bank.old }
-    requires literal { f < length bank.old }
-    requires metas { symbols metas.now ≡ both_of (fresh_of w) a.metas 0 }
-    ensures extends { Extends bank.old bank.new }
-    ensures distinct { IsDistinct bank.new }
-    ensures ok { IfOk result (λ o. HasTerm bank.new o
-        (literal_term (fresh_of w) (signed_of bank.old a) (tree_at bank.old f))) }
-{
-    bank.count();
-    if !is_literal(bank, f) {
-        return Ok(None);
-    }
-    let c = signed_literal(bank, f);
-    signed_term_by(bank, alloc, w, metas, a, c)
+    instance_term(bank, alloc, w, metas.as_slice(), a.atom, c.atom)
 }
 
 /// What a literal of opposite sign gives.

@@ -1,3 +1,2 @@
-mod Fresh
 mod Meant
 mod NodeLaws

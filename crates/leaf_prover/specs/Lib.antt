@@ -1,4 +1,3 @@
-pub mod Fresh
 pub mod Forms
 pub mod Answers
 pub mod Laws

@@ -5,7 +5,9 @@ use sqlite_items::Items;
 #[derive(Debug, Drop)]
 pub enum Answer {
     /// Each branch closed, after this many turns.
-    Proved { turns: u64 },
+    Proved {
+        turns: u64,
+    },
     /// A branch stays open where no rule applies, after this many turns. Where the form is propositional, these values of its symbols
     /// make the facts true and the goal false.
     Saturated {
@@ -13,5 +15,7 @@ pub enum Answer {
         turns: u64,
     },
     /// The turns were used up.
-    Spent { turns: u64 },
+    Spent {
+        turns: u64,
+    },
 }

@@ -1,18 +1,17 @@
-//! The written search's answer to a canonical form.
+//! What the written search answers to canonical forms.
 //!
 //! To the layer above this crate promises:
-//! - [`is_form`] says exactly whether the facts and the goal are closed expressions over canonical symbols without a temporal mark.
-//! - [`prove`] answers what the written search answers to the form with a limit of turns: a proof that is correct for it, the values of a
-//!   saturated branch where the form is propositional, or that the turns are spent. Want of memory is an answer of its own.
+//! - [`is_form`] says exactly whether the facts and the goal are closed expressions over canonical symbols without a temporal mark: those
+//!   that the search over shared nodes can take.
+//! - What answers mean, of the definition in `specs/Answers.antt`: the goal of a proved form has a derivation from its facts
+//!   ([`proved_derives`]), values that are found falsify their form ([`values_are_right`]), and with enough turns a propositional form is
+//!   proved exactly where nothing falsifies it ([`enough_turns_decide`]).
 #![tactic(auto)]
 
 mod answer;
-mod engine;
 mod form;
 mod laws;
-mod unused;
 
 pub use answer::Answer;
-pub use engine::prove;
 pub use form::is_form;
 pub use laws::{enough_turns_decide, proved_derives, values_are_right};

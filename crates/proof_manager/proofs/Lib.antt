@@ -1,5 +1,4 @@
 pub mod WordLaws
-pub mod Counting
 pub mod ValueLaws
 pub mod Walks
 pub mod Tells

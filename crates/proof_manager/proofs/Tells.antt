@@ -12,24 +12,19 @@ use Rattle.proof_contexts.specs.Canonical.{obligation_canon}
 use Rattle.canonical_form.specs.Named.{names_of}
 use Rattle.theorem_leaves.specs.declared.chapter.TheoremLeaves.{TheoremLeaves}
 use Rattle.theorem_leaves.specs.declared.chapter.Chapter.{Chapter}
-use Rattle.core_expr.specs.declared.canon.Canon.{Canon}
-use Rattle.core_expr.specs.declared.head.Sym.{Sym}
-use Rattle.proof_cache.specs.declared.verdict.Verdict.{Verdict as JobVerdict}
-use Rattle.proof_cache.specs.declared.verdict.Verdict.TheVariants as told
-use Rattle.proof_cache.specs.Verdicts.{Allowed}
-use Rattle.leaf_prover.specs.Forms.{is_form}
-use Rattle.leaf_prover.specs.Answers.{IsRight, turn_limit, answer}
+use Rattle.sequent_answer.specs.Forms.{is_propositional_canon}
+use Rattle.sequent_answer.specs.Answer.{answer}
 use Rattle.tla_ast.specs.declared.fault.ScopeFault.{ScopeFault}
 use Rattle.tla_ast.specs.declared.fault.ScopeFault.TheVariants as fault
-use Rattle.leaf_prover.specs.declared.answer.Answer.{Answer as Searched}
-use Rattle.leaf_prover.specs.declared.answer.Answer.TheVariants.{Proved, Saturated, Spent}
+use Rattle.propositional_search.specs.declared.search.Answer.{Answer as Searched}
+use Rattle.propositional_search.specs.declared.search.Answer.TheVariants.{Proved, Saturated, Spent}
 use Rattle.status_report.specs.declared.table.Shown.{Shown}
 use Rattle.status_report.specs.declared.table.Shown.TheVariants as shown
 use Rattle.status_report.specs.declared.table.LeafIn.{LeafIn}
 use Rattle.status_report.specs.declared.table.TheoremIn.{TheoremIn}
 use Rattle.status_report.specs.declared.table.ModuleIn.{ModuleIn}
 use Rattle.status_report.specs.Report.{is_memory, wants_memory, has_memory_leaf}
-use Rattle.proof_manager.specs.Judging.{Answer, and_then, each, shown_answer, shown_verdict, shown_kind, searched, form as form_fault, judged_leaf, judged_theorem, judged_module}
+use Rattle.proof_manager.specs.Judging.{Answer, and_then, each, shown_answer, shown_kind, searched, form, judged_leaf, judged_theorem, judged_module}
 use Rattle.proof_manager.specs.Values.{symbol_text}
 use Rattle.proof_manager.specs.Told.{unanswered, ShownTold, EachTold, LeafTold, TheoremTold, ModuleTold, ModulesTold, Tells}
 use Rattle.proof_manager.proofs.Walks.{behind, behind-nothing, each-next, each-stops, each-ends}
@@ -84,30 +79,11 @@ answer-unanswered names (Spent turns) = refl
 pub told-as-defined : (s : Shown) (r : Answer Shown) → r ≡ Ok s → Tells ShownTold (Ok s) r
 told-as-defined s r h = (s, h, (true, refl))
 
--- a verdict that is right shows the answer
-verdict-shows : (names : List Text) (c : Canon) (v : JobVerdict) → Allowed (IsRight turn_limit) c v → ShownTold (shown_verdict names v) (shown_answer names (answer turn_limit c))
-verdict-shows names c (told.Proved proof turns cached) h = (true, ap (shown_answer names) (sym h.0))
-verdict-shows names c (told.Saturated values turns) h = (true, ap (shown_answer names) (sym h))
-verdict-shows names c (told.Spent turns) h = (true, ap (shown_answer names) (sym h))
-verdict-shows names c told.Memory h = (false, sym (answer-unanswered names (answer turn_limit c)))
-
-pub search-tells : (es : List Entry) (owner : Text) (p : Place) (o : Obligation) (c : Canon) (ns : List Sym) (v : JobVerdict) (s : Shown) → c ≡ obligation_canon o → ns ≡ names_of o → is_form c ≡ true
-    → Allowed (IsRight turn_limit) c v → s ≡ shown_verdict (map (symbol_text es) ns) v → Tells ShownTold (Ok s) (searched es owner p o)
-search-tells es owner p o c ns v s canon names form right is =
-    let a = answer turn_limit (obligation_canon o) in
-    let texts = map (symbol_text es) (names_of o) in
-    (
-      shown_answer texts a,
-      ap (λ b. if b then Ok (shown_answer texts a) else Err (form_fault owner p)) (ap is_form (sym canon) ∙ form),
-      subst (λ t. ShownTold t (shown_answer texts a)) (sym (is ∙ ap (λ (l : List Sym). shown_verdict (map (symbol_text es) l) v) names))
-          (verdict-shows texts (obligation_canon o) v (subst (λ (d : Canon). Allowed (IsRight turn_limit) d v) canon right)),
-    )
-
-pub search-wants : (es : List Entry) (owner : Text) (p : Place) (o : Obligation) → is_form (obligation_canon o) ≡ true → Tells ShownTold (Ok shown.Memory) (searched es owner p o)
+pub search-wants : (es : List Entry) (owner : Text) (p : Place) (o : Obligation) → is_propositional_canon (obligation_canon o) ≡ true → Tells ShownTold (Ok shown.Memory) (searched es owner p o)
 search-wants es owner p o h =
     let names = map (symbol_text es) (names_of o) in
-    let a = answer turn_limit (obligation_canon o) in
-    (shown_answer names a, ap (λ b. if b then Ok (shown_answer names a) else Err (form_fault owner p)) h, (false, sym (answer-unanswered names a)))
+    let a = answer (obligation_canon o) in
+    (shown_answer names a, ap (λ b. if b then Ok (shown_answer names a) else Err (form owner p)) h, (false, sym (answer-unanswered names a)))
 
 pub leaf-told : (es : List Entry) (owner : Text) (l : Leaf) (s : Shown) → Tells ShownTold (Ok s) (shown_kind es owner l.place l.kind) → Tells LeafTold (Ok (record { place = l.place; verdict = s })) (judged_leaf es owner l)
 leaf-told es owner l s h =

@@ -1,7 +1,7 @@
 //! What leaves come to.
 
 ghost use Rattle.std.specs.Prelude.{◌≡◌, length, map, IfOk};
-ghost use Rattle.leaf_prover.specs.Answers.{WithValues};
+ghost use Rattle.sequent_answer.specs.Answer.{HasValues};
 ghost use Rattle.proof_manager.specs.Judging as spec;
 ghost use Rattle.proof_manager.specs.Told.{Tells, EachTold, ShownTold, LeafTold, TheoremTold, ModuleTold, ModulesTold};
 ghost use Rattle.proof_manager.specs.Values.{symbol_text, valuation_text};
@@ -11,8 +11,8 @@ use canonical_form::canon;
 use core_expr::{Memory, Sym, Text};
 use obligation::Obligation;
 use proof_contexts::{Leaf, LeafKind};
-use leaf_prover::{is_form, prove};
-use proof_cache::{Limit, Verdict};
+use propositional_search::Answer;
+use sequent_answer::{answer_to, canonical_forms, is_propositional};
 use sqlite_items::Items;
 use status_report::{LeafIn, ModuleIn, Shown, TheoremIn};
 use std::alloc::Global;
@@ -44,33 +44,16 @@ fn valuation(
     Ok(Text::from_vec(text))
 }
 
-/// What is shown of a verdict.
-fn shown(
-    alloc: Global,
-    scoped: &Scoped,
-    symbols: &[Sym],
-    verdict: &Verdict,
-) -> Result<Shown, Memory>
-    requires { WithValues (length symbols.now) verdict.now }
-    ensures { IfOk result (λ s. s ≡ spec.shown_verdict
-        (map (symbol_text scoped.now.entries) symbols.now) verdict.now) }
+/// What is shown of an answer.
+fn shown(alloc: Global, scoped: &Scoped, symbols: &[Sym], answer: &Answer) -> Result<Shown, Memory>
+    requires { HasValues (length symbols.now) answer.now }
+    ensures { IfOk result (λ s. s ≡ spec.shown_answer
+        (map (symbol_text scoped.now.entries) symbols.now) answer.now) }
 {
-    match verdict {
-        Verdict::Memory => Ok(Shown::Memory),
-        Verdict::Proved {
-            proof: _,
-            turns,
-            cached: _,
-        } => Ok(Shown::Proved(*turns)),
-        Verdict::Spent { turns } => Ok(Shown::Spent(*turns)),
-        Verdict::Saturated {
-            valuation: None,
-            turns,
-        } => Ok(Shown::Saturated(*turns, None)),
-        Verdict::Saturated {
-            valuation: Some(values),
-            turns,
-        } => {
+    match answer {
+        Answer::Proved { turns } => Ok(Shown::Proved(*turns)),
+        Answer::Spent { turns } => Ok(Shown::Spent(*turns)),
+        Answer::Saturated { values, turns } => {
             let text = valuation(alloc, scoped, symbols, values.as_slice())?;
             Ok(Shown::Saturated(*turns, Some(text)))
         }
@@ -78,7 +61,7 @@ fn shown(
 }
 
 impl Court<'_> {
-    /// The refusal of a leaf whose canonical form the search cannot take.
+    /// The refusal of what is not built yet.
     fn left_out(&self, place: Place) -> Result<ScopeFault, Memory>
         ensures { IfOk result (λ e. e ≡ spec.form self.now.«module».now place) }
     {
@@ -95,11 +78,14 @@ impl Court<'_> {
             (spec.searched self.now.scoped.now.entries self.now.«module».now place of.now) }
     {
         let named = canon(self.alloc, of)?;
-        if !is_form(&named.canon) {
+        if !is_propositional(&named.canon) {
             return Err(self.left_out(place)?);
         }
-        let verdict = prove(self.alloc, &named.canon, Limit::standard());
-        match shown(self.alloc, self.scoped, named.names.as_slice(), &verdict) {
+        canonical_forms();
+        let Ok(answer) = answer_to(self.alloc, &named.canon, named.names.len() as u64) else {
+            return Ok(Shown::Memory);
+        };
+        match shown(self.alloc, self.scoped, named.names.as_slice(), &answer) {
             Ok(shown) => Ok(shown),
             Err(_) => Ok(Shown::Memory),
         }

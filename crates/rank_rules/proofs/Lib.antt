@@ -1,4 +1,3 @@
 pub mod Entries
 pub mod HasLaws
 pub mod DeriveLaws
-pub mod ShutLaws

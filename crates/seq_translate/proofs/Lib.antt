@@ -2,5 +2,3 @@ pub mod Marked
 pub mod Newly
 pub mod Stepped
 pub mod Taken
-pub mod Ran
-pub mod Proved

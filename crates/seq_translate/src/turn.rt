@@ -23,7 +23,7 @@ use search_trace::{Added, Turn, Used};
 use std::alloc::Global;
 
 /// The second side of a split is done with the turns behind, where one is resumed.
-pub fn resume(
+fn resume(
     alloc: Global,
     marks: &mut Vec<bool>,
     seconds: &mut Vec<Second>,
@@ -45,7 +45,7 @@ pub fn resume(
 
 /// A closing.
 #[tactic(auto, using(crate::proofs::Newly::under_below, crate::proofs::Stepped::shut_state))]
-pub fn shut<R: RuleProofs>(
+fn shut<R: RuleProofs>(
     rules: &R,
     w: &mut Writer,
     alloc: Global,
@@ -68,7 +68,7 @@ pub fn shut<R: RuleProofs>(
 
 /// A rule with one side.
 #[tactic(auto, using(crate::proofs::Stepped::one_state, crate::proofs::Stepped::idle_state))]
-pub fn one<R: RuleProofs>(
+fn one<R: RuleProofs>(
     rules: &R,
     w: &mut Writer,
     alloc: Global,

@@ -1,5 +1,0 @@
-pub mod PlaceLaws
-pub mod ClosingLaws
-pub mod ReplaceLaws
-pub mod RewriteLaws
-pub mod PositionLaws

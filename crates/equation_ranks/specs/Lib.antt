@@ -1,4 +1,0 @@
-pub mod Partners
-pub mod Replacing
-pub mod Rewriting
-pub mod Kept

@@ -1,6 +1,0 @@
-pub mod Judging
-pub mod Reasons
-pub mod Plans
-pub mod Memos
-pub mod Sides
-pub mod Answers
