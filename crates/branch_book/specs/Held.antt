@@ -1,5 +1,5 @@
 -- What the fields of a book keep.
-use Rattle.std.specs.Prelude.{◌≡◌, ℕ, suc, ◌+◌, ◌-◌, ◌<◌, ◌≤◌, Bool, true, false, List, [], ◌∷◌, ◌++◌, length, take, reverse}
+use Rattle.std.specs.Prelude.{◌≡◌, ℕ, suc, ◌+◌, ◌-◌, ◌<◌, ◌≤◌, true, false, List, [], ◌∷◌, length, take, reverse}
 use Rattle.std.proofs.Common.{get_or}
 use Rattle.branch_book.specs.declared.item.Item.{Item}
 use Rattle.branch_book.specs.declared.item.Move.{Move}

@@ -1,5 +1,5 @@
 //! A branch as a book of entries.
-ghost use Rattle.std.specs.Prelude.{◌≡◌, ◌<◌, ◌≤◌, ◌+◌, [], ℕ, true, not, length, IfOk, OnOk, OnErr, IfSome, IfNone};
+ghost use Rattle.std.specs.Prelude.{◌≡◌, ◌<◌, ◌≤◌, [], ℕ, true, not, length, IfOk, OnOk, OnErr, IfSome, IfNone};
 ghost use Rattle.branch_book.specs.Links.{item_at, IsIn};
 ghost use Rattle.branch_book.specs.States.{stands, added, killed, counted, undone};
 

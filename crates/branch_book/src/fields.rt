@@ -1,5 +1,5 @@
 //! The fields of a book, and what changes them.
-ghost use Rattle.std.specs.Prelude.{◌≡◌, ◌<◌, ◌≤◌, ◌+◌, ◌∷◌, [], ◌++◌, IfOk, ℕ, suc, false, true, not, length, OnOk, OnErr, IfSome, IfNone, List};
+ghost use Rattle.std.specs.Prelude.{◌≡◌, ◌<◌, ◌≤◌, ◌+◌, ◌∷◌, [], ◌++◌, IfOk, ℕ, suc, false, true, not, length, OnOk, OnErr, IfSome, IfNone};
 ghost use Rattle.branch_book.specs.declared.item.Move.TheVariants.{Added, Killed, Kept, Counted};
 ghost use Rattle.branch_book.specs.Links.{item_at, chain_of, IsIn, HasRoom, IsLinked};
 ghost use Rattle.branch_book.specs.States.{stands, fresh, with_life, with_count, changed, killed, counted, undone, added};

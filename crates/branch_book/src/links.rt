@@ -1,5 +1,5 @@
 //! The links of the lists of live entries by class.
-ghost use Rattle.std.specs.Prelude.{◌≡◌, ◌<◌, ◌≤◌, ◌+◌, ◌-◌, ◌⊎◌, length};
+ghost use Rattle.std.specs.Prelude.{◌≡◌, ◌<◌, ◌≤◌, ◌-◌, ◌⊎◌, length};
 ghost use Rattle.branch_book.specs.Links.{none, chain_of, with_after, with_before, next_of, prev_of};
 
 /// Links of the lists of classes. A link to the younger side is an entry, or `NONE`; one to the older side is one more than

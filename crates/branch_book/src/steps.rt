@@ -1,13 +1,13 @@
 //! The steps that changes are made of.
-ghost use Rattle.std.specs.Prelude.{◌≡◌, ◌<◌, ◌≤◌, ◌+◌, ◌-◌, ◌⊎◌, ◌∷◌, [], ◌++◌, ℕ, suc, false, true, length, take, slice_index, slice_set, OnOk, OnErr, IfSome, IfNone, reverse};
+ghost use Rattle.std.specs.Prelude.{◌≡◌, ◌<◌, ◌≤◌, ◌+◌, ◌-◌, ◌⊎◌, ◌∷◌, [], ◌++◌, ℕ, suc, length, slice_index, OnOk, OnErr, IfSome, IfNone};
 ghost use Rattle.branch_book.specs.declared.item.Move.{Move as Change};
-ghost use Rattle.branch_book.specs.declared.item.Move.TheVariants.{Added, Killed, Kept, Counted};
-ghost use Rattle.branch_book.specs.Links.{none, item_at, chain_of, next_of, prev_of, IsIn, HasRoom, IsLinked, Adjacent, unlinked, relinked};
-ghost use Rattle.branch_book.specs.States.{stands, fresh, with_life, with_count};
-ghost use Rattle.branch_book.specs.Held.{before_move, CanUndo, CanUndoAll, IsPlaced, IsHeld};
+ghost use Rattle.branch_book.specs.declared.item.Move.TheVariants.{Added};
+ghost use Rattle.branch_book.specs.Links.{none, item_at, chain_of, unlinked, relinked};
+ghost use Rattle.branch_book.specs.States.{stands};
+ghost use Rattle.branch_book.specs.Held.{IsPlaced};
 
 use crate::item::{Item, Move};
-use crate::links::{Links, NONE, after_of, before_of, set_after, set_before};
+use crate::links::{Links, set_after, set_before};
 use std::alloc::AllocError;
 
 /// The entry of the formula.

@@ -1,6 +1,6 @@
 //! The symbols of expressions, in the order of prefix notation.
 
-ghost use Rattle.std.specs.Prelude.{◌≡◌, ◌<◌, ◌++◌, length, OnOk};
+ghost use Rattle.std.specs.Prelude.{◌≡◌, ◌<◌, ◌++◌, [], length, IfOk, OnOk};
 ghost use Rattle.core_expr.specs.Heads.{subtrees};
 ghost use Rattle.core_expr.specs.Flat.{rows_of};
 ghost use Rattle.core_expr.specs.Places.{subtree};
@@ -8,7 +8,7 @@ ghost use Rattle.proof_contexts.specs.Canonical.{gathered, each_gathered};
 ghost use Rattle.canonical_form.specs.Gathering.{met, waiting, AreNodes};
 
 use core_expr::theorems::last_is_root;
-use core_expr::{Expr, Memory, RowKind, Sym};
+use core_expr::{Canon, Expr, Memory, RowKind, Sym};
 use indexmap::IndexSet;
 use sqlite_items::Items;
 use std::alloc::Global;
@@ -63,4 +63,15 @@ pub fn gather_each(alloc: Global, symbols: &mut IndexSet<Sym>, es: &[Expr]) -> R
         gather(alloc, symbols, e)?;
     }
     Ok(())
+}
+
+/// The different symbols of a canonical form, those of the goal first.
+pub fn symbols_from_goal(alloc: Global, canon: &Canon) -> Result<IndexSet<Sym>, Memory>
+    ensures { IfOk result (λ s.
+        s.keys ≡ each_gathered canon.now.facts (gathered canon.now.goal [])) }
+{
+    let mut symbols = IndexSet::new(alloc);
+    gather(alloc, &mut symbols, &canon.goal)?;
+    gather_each(alloc, &mut symbols, canon.facts.as_slice())?;
+    Ok(symbols)
 }

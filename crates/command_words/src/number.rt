@@ -1,5 +1,5 @@
 //! Numbers in the words.
-ghost use Rattle.std.specs.Prelude.{◌≡◌, ℕ, option_map, IfSome, IfNone};
+ghost use Rattle.std.specs.Prelude.{ℕ, option_map, IfSome, IfNone};
 ghost use Rattle.command_words.specs.Words.{IsNumber};
 
 /// The number that a text gives, from 1 to the greatest, or the other one where there is no text.

@@ -1,5 +1,5 @@
 //! Makes expressions by the shapes of their trees.
-ghost use Rattle.std.specs.Prelude.{◌≡◌, ◌+◌, ◌<◌, ◌^◌, ◌∷◌, [], length, IsTrue, IfOk};
+ghost use Rattle.std.specs.Prelude.{◌≡◌, ◌+◌, ◌<◌, ◌∷◌, [], length, IsTrue, IfOk};
 ghost use Rattle.core_expr.specs.Tree.{num_, str_};
 ghost use Rattle.core_expr.specs.Tree.Tree.{bound, app, node, bind};
 ghost use Rattle.core_expr.specs.Tree.Parts.{end, part};

@@ -1,7 +1,7 @@
 //! Substitutes expressions for symbols, on the nodes of an expression.
-ghost use Rattle.std.specs.Prelude.{◌≡◌, ◌↔◌, ◌<◌, ◌∷◌, ◌++◌, Some, None, IsTrue, IfOk, OnOk, MatchOption, length, drop, [], true};
-ghost use Rattle.core_expr.specs.Heads.{is_well_formed, is_empty, is_only};
-ghost use Rattle.core_expr.specs.Flat.{rows_of, row};
+ghost use Rattle.std.specs.Prelude.{◌≡◌, ◌<◌, ◌∷◌, ◌++◌, Some, None, IfOk, OnOk, MatchOption, length, drop, [], true};
+ghost use Rattle.core_expr.specs.Heads.{is_empty, is_only};
+ghost use Rattle.core_expr.specs.Flat.{row};
 ghost use Rattle.core_expr.specs.Put.{sub};
 ghost use Rattle.core_expr.specs.Index.{named_at, Indexes};
 ghost use Rattle.core_expr.specs.Rename.{named, all_formed, body_for, lifted, begin, between, argument_rows, filled_row, filled, is_variable, root_symbol, applied_symbol, put_nodes, next_nodes, next_starts, renamed};

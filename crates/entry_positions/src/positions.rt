@@ -1,5 +1,5 @@
 //! Positions for the branch at hand and for those that wait.
-ghost use Rattle.std.specs.Prelude.{◌≡◌, ◌<◌, ◌++◌, ◌∷◌, [], length, replicate, slice_index, slice_set, take, IfOk, OnOk, OnErr};
+ghost use Rattle.std.specs.Prelude.{◌≡◌, ◌<◌, ◌∷◌, [], length, replicate, slice_index, slice_set, take, IfOk, OnOk, OnErr};
 ghost use Rattle.entry_positions.specs.Places.{put, place_at};
 
 use std::alloc::{AllocError, Global};

@@ -5,7 +5,7 @@ use Rattle.tla_ast.specs.declared.place.Place.{Place}
 use Rattle.expression_level.specs.declared.weight.Use.{Use}
 use Rattle.expression_level.specs.Levels.{Judged, Several, Applied, higher, raised, has_fault, fault_if, told, before, beside, overall, at_name, limited, primed_level, action_level}
 use Rattle.expression_level.specs.Weights as w
-use Rattle.expression_level.specs.Weights.{Weight, Known, merged, told_by, told_from, told_under, nothing, join, total, fixed, with_fault, capped, lifted, depth_of, function_of, primed_use, all_primed, primed_if, named}
+use Rattle.expression_level.specs.Weights.{Weight, Known, merged, told_by, told_from, told_under, nothing, join, total, fixed, with_fault, capped, lifted, depth_of, function_of, primed_use, primed_if, named}
 use Rattle.expression_level.specs.Weights.Known.{arguments, defined}
 use Rattle.expression_level.proofs.Evaluation.{higher-none, or-false, merged-zero, merged-assoc, from-zero, from-same, has-fault-append, has-fault-with, faulty, under-join, under-fixed, under-lifted, under-capped, under-with, told-put}
 

@@ -8,7 +8,7 @@ use Rattle.tla_ast.specs.declared.place.Place.{Place}
 use Rattle.tla_ast.specs.declared.tree.Decl.{Decl}
 use Rattle.plain_syntax.specs.Plain.{Term}
 use Rattle.symbol_table.specs.Symbols.{symbol_at}
-use Rattle.expression_level.specs.Levels.{Levels, Applied, higher, told, level, constantly, bound, definition_level, declared_level}
+use Rattle.expression_level.specs.Levels.{Applied, higher, told, level, bound, definition_level}
 use Rattle.expression_level.specs.Levels as l
 use Rattle.expression_level.specs.Primed.{primed_parameters}
 use Rattle.expression_level.proofs.Occurring.{primed-next, blank-closed}

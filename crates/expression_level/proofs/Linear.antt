@@ -13,12 +13,12 @@ use Rattle.plain_syntax.specs.Plain.Groups.{end_groups, free, within}
 use Rattle.plain_syntax.specs.Plain.Defs.{end_defs, def}
 use Rattle.expression_level.specs.declared.weight.Use.{Use}
 use Rattle.expression_level.specs.Levels as l
-use Rattle.expression_level.specs.Levels.{Judged, Several, Applied, Levels, higher, has_fault, told, constantly, bind, applied, is_word}
+use Rattle.expression_level.specs.Levels.{Judged, Applied, Levels, higher, has_fault, told, constantly, bind, applied, is_word}
 use Rattle.expression_level.specs.Weights as w
 use Rattle.expression_level.specs.Scope as walk
 use Rattle.expression_level.specs.Scope.{Env, at_number, known, with_local}
 use Rattle.expression_level.proofs.Locals.{at-bound}
-use Rattle.expression_level.specs.Weights.{Weight, Known, merged, told_by, told_from, told_under, depth_of, function_of, padded, unused, uses_of, parameter, definition, unlimited, result_so_far, asked_round}
+use Rattle.expression_level.specs.Weights.{Weight, Known, merged, told_by, told_from, depth_of, function_of, padded, uses_of, parameter, definition, unlimited, result_so_far, asked_round}
 use Rattle.expression_level.specs.Weights.Known.{arguments, defined}
 use Rattle.expression_level.proofs.Evaluation.{higher-none, merged-zero, from-none, from-zero, from-unlimited, under-fixed}
 use Rattle.expression_level.proofs.Agreement.{Zeros, Stands, StandEach, Knows, stands-nothing, stands-beside, stands-fixed, stands-limited, stands-primed, stands-action, stands-if, each-before, stands-at-name}

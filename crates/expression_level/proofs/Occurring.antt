@@ -19,7 +19,7 @@ use Rattle.expression_level.specs.Weights as w
 use Rattle.expression_level.specs.Scope as walk
 use Rattle.expression_level.specs.Scope.{Env, at_number, known, with_local, with_parameters, weigh}
 use Rattle.expression_level.proofs.Locals.{at-bound}
-use Rattle.expression_level.specs.Weights.{Weight, Known, both, stricter, all_uses, join, total, kept, fixed, capped_use, raised_use, limited, lifted, primed_use, all_primed, named, passed, put, unlimited, unused, uses_of, parameter, depth_of, at_name, result_so_far, asked_round, primed_first}
+use Rattle.expression_level.specs.Weights.{Weight, Known, all_uses, join, total, kept, fixed, capped_use, raised_use, limited, primed_use, all_primed, named, passed, put, unlimited, unused, parameter, depth_of, at_name, result_so_far, asked_round, primed_first}
 use Rattle.expression_level.specs.Weights.Known.{arguments, defined}
 use Rattle.expression_level.proofs.Evaluation.{or-false}
 

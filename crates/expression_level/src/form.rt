@@ -1,7 +1,6 @@
 //! What forms make of the levels of their parts.
 
-ghost use Rattle.std.specs.Prelude.{◌≡◌, ◌++◌, ◌-◌, ◌||◌, [], ◌∷◌, length, take, drop, codes, IfOk, OnOk};
-ghost use Rattle.expression_level.specs.Levels.{is_word};
+ghost use Rattle.std.specs.Prelude.{◌≡◌, ◌-◌, ◌||◌, [], ◌∷◌, length, take, drop, codes, IfOk, OnOk};
 ghost use Rattle.tla_ast.specs.declared.tree.Node.{out-Node};
 ghost use Rattle.expression_level.specs.Scope as spec;
 ghost use Rattle.expression_level.specs.Weights as weights;

@@ -1,6 +1,6 @@
 //! The weight of an expression.
 
-ghost use Rattle.std.specs.Prelude.{◌≡◌, ◌+◌, [], ◌∷◌, map, get_or, false, IfOk, OnOk};
+ghost use Rattle.std.specs.Prelude.{◌≡◌, [], ◌∷◌, map, get_or, false, IfOk, OnOk};
 ghost use Rattle.tla_ast.specs.declared.tree.Node.{out-Node};
 ghost use Rattle.tla_ast.specs.declared.tree.Def.{out-Def};
 ghost use Rattle.tla_ast.specs.declared.tree.Group.{out-Group};

@@ -1,6 +1,6 @@
 //! How levels depend on parameters.
 
-ghost use Rattle.std.specs.Prelude.{◌≡◌, ◌||◌, ◌++◌, [], map, get_or, IfOk, OnOk};
+ghost use Rattle.std.specs.Prelude.{◌≡◌, ◌||◌, [], map, get_or, IfOk, OnOk};
 ghost use Rattle.expression_level.specs.Levels as levels;
 ghost use Rattle.expression_level.specs.Weights as spec;
 ghost use Rattle.expression_level.specs.Store.{changed};

@@ -1,7 +1,6 @@
 //! Formulas joined into one.
 ghost use Rattle.std.specs.Prelude.{◌≡◌, ◌<◌, length, IfOk};
 ghost use Rattle.core_expr.specs.Nodes.{AreBelow, picked};
-ghost use Rattle.core_expr.specs.Tree.{or_, and_, true_, false_};
 ghost use Rattle.seq_calculus.specs.Schemas.{join, join_from, equals_each, equal_pairs};
 ghost use Rattle.term_bank.specs.Banks.{IsDistinct, Extends, HasTree, tree_at};
 ghost use Rattle.term_shapes.specs.Forms.{ArePlaced};

@@ -1,6 +1,6 @@
 //! What schemas say of functions and sets under a binder.
-ghost use Rattle.std.specs.Prelude.{◌≡◌, ◌<◌, ◌∷◌, [], length, IfOk};
-ghost use Rattle.core_expr.specs.Tree.{in_, subseteq_, eq_, and_, ex_, imp_, all_, apply_};
+ghost use Rattle.std.specs.Prelude.{◌<◌, ◌∷◌, [], length, IfOk};
+ghost use Rattle.core_expr.specs.Tree.{in_, eq_, and_, ex_, imp_, all_};
 ghost use Rattle.core_expr.specs.Tree.Tree.{bound};
 ghost use Rattle.core_expr.specs.Nodes.{AreBelow};
 ghost use Rattle.core_expr.specs.Put.{IsScoped, shift, inst};

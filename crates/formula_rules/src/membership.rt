@@ -1,7 +1,7 @@
 //! What it is to be in a set.
-ghost use Rattle.std.specs.Prelude.{◌≡◌, ◌<◌, ◌∷◌, [], length, IfOk};
+ghost use Rattle.std.specs.Prelude.{◌<◌, ◌∷◌, [], length, IfOk};
 ghost use Rattle.core_expr.specs.Nodes.{AreBelow};
-ghost use Rattle.core_expr.specs.Tree.{enum_, or_, false_};
+ghost use Rattle.core_expr.specs.Tree.{or_, false_};
 ghost use Rattle.core_expr.specs.Put.{IsScoped};
 ghost use Rattle.core_expr.specs.Heads.{subtrees};
 ghost use Rattle.seq_calculus.specs.Schemas.{join, equals_each};

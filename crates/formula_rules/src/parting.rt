@@ -1,5 +1,5 @@
 //! Rank split.
-ghost use Rattle.std.specs.Prelude.{◌≡◌, ◌<◌, ◌+◌, ◌∷◌, [], length, IfOk, IsTrue};
+ghost use Rattle.std.specs.Prelude.{◌<◌, ◌+◌, ◌∷◌, [], length, IfOk, IsTrue};
 ghost use Rattle.core_expr.specs.Nodes.{AreBelow, picked};
 ghost use Rattle.core_expr.specs.Tree.{not_};
 ghost use Rattle.term_bank.specs.Banks.{IsDistinct, Extends, tree_at};

@@ -3,7 +3,7 @@ ghost use Rattle.std.specs.Prelude.{◌≡◌, ◌<◌, ◌∷◌, [], length, I
 ghost use Rattle.core_expr.specs.Nodes.{AreBelow};
 ghost use Rattle.core_expr.specs.Tree.{not_, in_, eq_, dom_};
 ghost use Rattle.core_expr.specs.Put.{IsScoped};
-ghost use Rattle.term_bank.specs.Banks.{IsDistinct, Extends, HasTree, tree_at};
+ghost use Rattle.term_bank.specs.Banks.{IsDistinct, Extends, tree_at};
 ghost use Rattle.seq_calculus.specs.Schemas.{own_values, values_within};
 ghost use Rattle.search_definition.specs.declared.rule.Rule.TheVariants.{FunctionSet};
 ghost use Rattle.search_definition.specs.Plain.{left_side, by_left, by_not_left, plain};

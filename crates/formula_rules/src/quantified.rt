@@ -1,5 +1,5 @@
 //! Universal formulas and their instances.
-ghost use Rattle.std.specs.Prelude.{◌≡◌, ◌<◌, ◌∷◌, [], length, IfOk};
+ghost use Rattle.std.specs.Prelude.{◌<◌, ◌∷◌, [], length, IfOk};
 ghost use Rattle.core_expr.specs.Nodes.{AreBelow};
 ghost use Rattle.core_expr.specs.Tree.{not_};
 ghost use Rattle.core_expr.specs.Put.{IsScoped};

@@ -1,7 +1,7 @@
 //! What the partners of an atom give.
 ghost use Rattle.std.specs.Prelude.{◌≡◌, ◌<◌, length, IfOk};
 ghost use Rattle.term_bank.specs.Banks.{IsDistinct, Extends, tree_at};
-ghost use Rattle.search_definition.specs.Instances.{signed_literal, sides_term, signed_term, literal_term, are_opposite};
+ghost use Rattle.search_definition.specs.Instances.{signed_literal, sides_term, signed_term, literal_term};
 ghost use Rattle.formula_rules.specs.Answers.{HasTerm};
 ghost use Rattle.instance_terms.specs.Fresh.{fresh_of, signed_of};
 

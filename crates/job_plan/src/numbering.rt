@@ -1,5 +1,5 @@
 //! Leaves with equal canonical forms are one job.
-ghost use Rattle.std.specs.Prelude.{◌≡◌, IfOk, [], map};
+ghost use Rattle.std.specs.Prelude.{◌≡◌, IfOk, []};
 ghost use Rattle.indexmap.specs.IndexSet.{insert_all};
 ghost use Rattle.core_expr.specs.Equality.{same_canon};
 ghost use Rattle.job_plan.specs.Plan.{ArePlaces, canons_of, names_of};

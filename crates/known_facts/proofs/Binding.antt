@@ -1,5 +1,5 @@
 -- Symbols bound, and what is said under items.
-use Rattle.std.proofs.Common.{◌≡◌, ℕ, suc, Bool, true, false, cond, List, [], ◌∷◌, refl, sym, ap, ◌∙◌}
+use Rattle.std.proofs.Common.{◌≡◌, ℕ, suc, Bool, true, false, cond, List, [], ◌∷◌, refl, ap}
 use Rattle.std.specs.Prelude.{Some, None}
 use Rattle.core_expr.specs.declared.head.Sym.{Sym}
 use Rattle.core_expr.specs.Tree.{Tree, Parts}

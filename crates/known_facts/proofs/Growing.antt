@@ -1,6 +1,6 @@
 -- Known lists that grow, and what is restored of them.
 use Rattle.std.proofs.Common.{◌≡◌, ℕ, zero, suc, ◌<◌, ◌≤◌, Bool, true, false, cond, List, [], ◌∷◌, ◌++◌, take, drop, length, map, slice_index_or, slice_set, arith, refl, sym, ap, subst, ◌∙◌}
-use Rattle.std.specs.Prelude.{Option, Some, None}
+use Rattle.std.specs.Prelude.{Option}
 use Rattle.core_expr.specs.Tree.{Tree}
 use Rattle.proof_contexts.specs.Expansion.{has_number}
 use Rattle.proof_contexts.specs.Steps.{Fact}

@@ -1,7 +1,6 @@
 -- What the root of an expression says of its form.
-use Rattle.std.proofs.Common.{◌≡◌, ℕ, suc, ◌+◌, ◌<◌, ◌&&◌, nat_eq, nat_lt, Bool, true, false, List, [], ◌∷◌, ◌++◌, length, slice_index_or, cond, refl, sym, ap, ◌∙◌, arith}
-use Rattle.std.specs.Prelude.{Option, Some, None}
-use Rattle.core_expr.specs.declared.head.Head.{Head}
+use Rattle.std.proofs.Common.{◌≡◌, ℕ, suc, ◌+◌, ◌<◌, ◌&&◌, nat_eq, nat_lt, Bool, true, false, [], ◌∷◌, ◌++◌, length, slice_index_or, cond, refl, sym, ap, ◌∙◌, arith}
+use Rattle.std.specs.Prelude.{Some, None}
 use Rattle.core_expr.specs.declared.head.Head.TheVariants.{And, Imp, In}
 use Rattle.core_expr.specs.declared.head.Binder.TheVariants as binder
 use Rattle.core_expr.specs.declared.row.RowKind.TheVariants.{Plain}
@@ -17,7 +16,7 @@ use Rattle.obligation.specs.Nodes.{is_symbol}
 use Rattle.obligation.specs.declared.obligation.Definition.{Definition}
 use Rattle.proof_contexts.specs.Expansion.{unfold_top}
 use Rattle.core_expr.specs.Places.{kind_of}
-use Rattle.proof_contexts.specs.Contexts.{Pair, as_all, as_ex, as_imp, as_and, as_in}
+use Rattle.proof_contexts.specs.Contexts.{Pair, as_imp, as_and, as_in}
 use Rattle.known_facts.specs.declared.item.Quantifier.{Quantifier}
 use Rattle.known_facts.specs.declared.item.Quantifier.TheVariants.{All, Exists}
 use Rattle.known_facts.specs.Forms.{is_root_of, as_quantified}

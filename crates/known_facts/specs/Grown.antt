@@ -1,7 +1,6 @@
 -- A known list that has grown: what was known is there still, with further marks, usable or not.
 use Rattle.std.specs.Prelude.{◌≡◌, ℕ, Bool, List, [], ◌∷◌, take, length, map}
 use Rattle.known_facts.specs.declared.context.Saved.{Saved}
-use Rattle.core_expr.specs.Tree.{Tree}
 use Rattle.proof_contexts.specs.Contexts.{Entry, Context}
 
 abbrev pub IsOlder : Entry → Entry → Type 0

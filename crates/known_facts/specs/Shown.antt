@@ -1,6 +1,5 @@
 -- What the code keeps, as the definitions see it.
-use Rattle.std.specs.Prelude.{ℕ, Option, List, map}
-use Rattle.core_expr.specs.Tree.{Tree}
+use Rattle.std.specs.Prelude.{List, map}
 use Rattle.core_expr.specs.declared.head.Sym.{Sym}
 use Rattle.known_facts.specs.declared.item.NewSymbol.{NewSymbol}
 use Rattle.known_facts.specs.declared.item.Item.{Item as kept_item}

@@ -22,10 +22,10 @@ use Rattle.layout_parser.specs.declared.flat.Step.TheVariants.{More, Ended, Brok
 use Rattle.token_reader.specs.Marks.{Text, spelling}
 use Rattle.token_reader.specs.Input.{Tokens, Outcome, first, next, here, mark, is_inside, name}
 use Rattle.layout_parser.specs.Reading as rule
-use Rattle.layout_parser.specs.Reading.{Chain, ChainReader, Stepped, behind, operator_in, operator_at, nested}
+use Rattle.layout_parser.specs.Reading.{ChainReader, Stepped, operator_in, operator_at, nested}
 use Rattle.layout_parser.specs.Spelling.{Stops}
 use Rattle.layout_parser.specs.Spelling as spell
-use Rattle.layout_parser.specs.Spelling.{Symbols, sign_at, expression, Operand, Subscript, MayUse, Spelled, none, token, of_operand, of_tree, of_no_bullet}
+use Rattle.layout_parser.specs.Spelling.{Symbols, Operand, Subscript, Spelled, none, token, of_operand, of_tree, of_no_bullet}
 use Rattle.layout_parser.proofs.ChainLaws.{Suits, IsGood, good-step}
 use Rattle.token_reader.proofs.Steps.{by-test}
 use Rattle.layout_parser.proofs.Steps.{Read, Stands, nothing, both, up-to, on-sign-at, on-name, on-operator, on-operand, stands-at, Good, ChainRead}

@@ -32,7 +32,7 @@ use Rattle.token_reader.specs.declared.setting.Stop.{Stop}
 use Rattle.layout_parser.specs.Reading as rule
 use Rattle.layout_parser.specs.Reading.{Chain, ChainReader, part, behind, after_member, member_at, ends_at, is_tuple_form, with_field, with_update, with_arm, begins_key, further_arm, sees_bullet}
 use Rattle.layout_parser.specs.Spelling as spell
-use Rattle.layout_parser.specs.Spelling.{Stops, Symbols, sign, sign_at, expression, same, between, word, Operand, Subscript}
+use Rattle.layout_parser.specs.Spelling.{Stops, Symbols, sign, sign_at, expression, same, Operand}
 use Rattle.layout_parser.proofs.ChainLaws.{member-listed}
 use Rattle.layout_parser.proofs.Belongs.{member-fits}
 use Rattle.layout_parser.proofs.Steps.{ChainRead, Derives, Good, ItemRead, ListRead, Read, Separates, Stands, Subscribes, ask-separates, at-any-place, behind-sign, both, derived, derived-as, eaten, le, list-read, mark-separates, nothing, on-declared, on-eat, on-finished, on-no, on-no-bullet, on-operand, on-sign, on-sign-at, on-token, on-word, puts, puts-last, puts-same, stands, stands-at, subscribed, subscribed-as, up-from, up-to}

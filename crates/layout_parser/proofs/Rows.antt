@@ -8,11 +8,10 @@ use Rattle.tla_ast.specs.declared.place.Place.{Place}
 use Rattle.tla_ast.specs.declared.fault.Fault.TheVariants as fault
 use Rattle.tla_ast.specs.declared.fault.Kind.TheVariants as kind
 use Rattle.tla_ast.specs.declared.tree.Form.TheVariants as form
-use Rattle.tla_ast.specs.declared.tree.Node.{Node}
 use Rattle.token_reader.specs.Marks.{words, signs, same_mark}
 use Rattle.token_reader.specs.Input.{mark, sees, sees_second, refusal, after, expect, name, declared, opening, begins, too_deep}
 use Rattle.token_reader.specs.Lists.{gathered, gathered_from}
-use Rattle.layout_parser.specs.Reading.{node, finished, operator_in, field, value, literal, part, arguments, named, parenthesized, tuple, subscript, angle_end, angle, fair, image, filter, elements, brace_end, member_brace, tuple_brace_after, tuple_brace, brace_from, brace, field_of, record_of, record_set, function_set, index, key_of, update, except, square_end, function, member_square, square_name, square_from, square, bound_set, bound, bounds, groups_of, quantifier, domain, choose, conditional, further_arm, arm, other_arm, case_end, cases, parameters, head, definition, local, bulleted, junction, at, operand, indexed, step_before, step_after, chain_from, nested, reading}
+use Rattle.layout_parser.specs.Reading.{finished, operator_in, field, value, literal, part, arguments, named, parenthesized, tuple, subscript, angle_end, angle, fair, image, filter, elements, brace_end, member_brace, tuple_brace_after, tuple_brace, brace_from, brace, field_of, record_of, record_set, function_set, index, key_of, update, except, square_end, function, member_square, square_name, square_from, square, bound_set, bound, bounds, groups_of, quantifier, domain, choose, conditional, further_arm, arm, other_arm, case_end, cases, parameters, head, definition, local, bulleted, junction, at, operand, indexed, step_before, step_after, chain_from, nested, reading}
 
 abbrev spot : ℕ → ℕ → Place
 spot line column = record { line = line; column = column }

@@ -1,11 +1,10 @@
 //! Quantifiers and CHOOSE.
 
-ghost use Rattle.std.specs.Prelude.{◌≡◌};
 ghost use Rattle.token_reader.specs.Input as input;
 ghost use Rattle.tla_ast.specs.Answers.{Reads};
 ghost use Rattle.layout_parser.specs.Reading as spec;
 ghost use Rattle.layout_parser.specs.Reading.{rule};
-ghost use Rattle.layout_parser.specs.Nests.{Nests, Flats, ended};
+ghost use Rattle.layout_parser.specs.Nests.{Nests};
 
 use crate::build::{group, one, one_part, whole};
 use crate::flat::Flat;

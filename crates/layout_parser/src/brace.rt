@@ -8,7 +8,7 @@ ghost use Rattle.tla_ast.specs.Answers.{Reads};
 ghost use Rattle.token_reader.specs.Input.{and_then};
 ghost use Rattle.layout_parser.specs.Reading as spec;
 ghost use Rattle.layout_parser.specs.Reading.{rule};
-ghost use Rattle.layout_parser.specs.Nests.{Nests, Flats, chain_of};
+ghost use Rattle.layout_parser.specs.Nests.{Nests, chain_of};
 
 use crate::build::{binary, leaf, one_part, unary, whole};
 use crate::flat::Flat;

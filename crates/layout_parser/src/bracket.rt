@@ -1,11 +1,10 @@
 //! Names with arguments, parentheses, angle brackets, subscripts.
 
-ghost use Rattle.std.specs.Prelude.{◌≡◌};
 ghost use Rattle.token_reader.specs.Input as input;
 ghost use Rattle.tla_ast.specs.Answers.{Reads};
 ghost use Rattle.layout_parser.specs.Reading as spec;
 ghost use Rattle.layout_parser.specs.Reading.{rule};
-ghost use Rattle.layout_parser.specs.Nests.{Nests, Flats, ended};
+ghost use Rattle.layout_parser.specs.Nests.{Nests};
 
 use crate::build::{binary, both, leaf, whole};
 use crate::flat::Flat;

@@ -3,7 +3,7 @@
 
 ghost use Rattle.std.specs.Prelude.{◌≡◌, ◌≢◌, Ok, Err, IfOk, true};
 ghost use Rattle.tla_ast.specs.declared.fault.Fault.TheVariants as syn;
-ghost use Rattle.operator_chain.specs.Chain.{IsChain, tree_of, fault_of};
+ghost use Rattle.operator_chain.specs.Chain.{IsChain};
 ghost use Rattle.operator_chain.specs.Listed.{AreListed};
 ghost use Rattle.tla_ast.specs.Answers.{Reads};
 ghost use Rattle.token_reader.specs.Input.{Tokens};

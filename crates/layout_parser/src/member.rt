@@ -8,11 +8,11 @@ ghost use Rattle.tla_ast.specs.Answers.{Reads};
 ghost use Rattle.token_reader.specs.Input.{Tokens};
 ghost use Rattle.token_reader.specs.Marks.{spelling};
 ghost use Rattle.layout_parser.specs.Reading as spec;
-ghost use Rattle.layout_parser.specs.Nests.{Nests, Flats, chain_of};
+ghost use Rattle.layout_parser.specs.Nests.{chain_of};
 
 use crate::build::leaf;
 use crate::flat::Flat;
-use crate::grammar::{Grammar, finished};
+use crate::grammar::finished;
 use core_expr::{Memory, Text};
 use operator_chain::{Operator, Piece};
 use std::alloc::Global;

@@ -1,11 +1,11 @@
 //! The pieces of a chain.
 
-ghost use Rattle.std.specs.Prelude.{◌≡◌, ◌≢◌, Ok, Err, IfOk, Some, None};
+ghost use Rattle.std.specs.Prelude.{◌≡◌, Ok, Err, IfOk, Some, None};
 ghost use Rattle.token_reader.specs.Input as input;
 ghost use Rattle.tla_ast.specs.Answers.{Reads};
 ghost use Rattle.layout_parser.specs.Reading as spec;
 ghost use Rattle.layout_parser.specs.Reading.{rule};
-ghost use Rattle.layout_parser.specs.Nests.{Nests, Flats, Steps};
+ghost use Rattle.layout_parser.specs.Nests.{Nests, Steps};
 
 use crate::flat::{Flat, Step};
 use crate::grammar::{Grammar, told};

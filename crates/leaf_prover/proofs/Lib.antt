@@ -1,2 +1,7 @@
+mod CountLaws
+mod Fresh
+mod ValueLaws
+mod StartLaws
 mod Meant
+mod SearchLaws
 mod NodeLaws

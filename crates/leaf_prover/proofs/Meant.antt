@@ -20,16 +20,16 @@ use Rattle.propositional_laws.specs.Valuations.{valuation}
 use Rattle.propositional_laws.specs.Laws.{ClosedIsValid, FormsAreFormulas, TurnsSuffice, DecidesPropositional, FewConnectives, ValuesFalsify as SearchFalsifies}
 use Rattle.leaf_prover.specs.declared.answer.Answer.{Answer}
 use Rattle.leaf_prover.specs.declared.answer.Answer.TheVariants.{Proved, Saturated, Spent}
-use Rattle.leaf_prover.specs.Forms.{is_form_part, are_form_parts, is_form}
-use Rattle.leaf_prover.specs.Answers.{answer_for, end_of, answer, is_proved, values_of}
+use Rattle.leaf_prover.specs.Forms.{is_form_part, are_form_parts}
+use Rattle.leaf_prover.specs.Answers.{answer_for, end_of, is_proved, values_of}
 use Rattle.leaf_prover.specs.Laws.{ProvedDerives, ProvedIsValid, ValuesFalsify, EnoughTurnsDecide, FewConnectivesDecide}
 
-closed : (e : Tree) → is_form_part e ≡ true → IsClosed e
+pub closed : (e : Tree) → is_form_part e ≡ true → IsClosed e
 closed e h = scoped-true 0 e (and_parts (is_canonical e) (is_scoped 0 e) h).1
 
-all-closed : (es : List Tree) → are_form_parts es ≡ true → AllClosed es
-all-closed [] h = tt
-all-closed (e ∷ es) h = let p = and_parts (is_form_part e) (are_form_parts es) h in (closed e p.0, all-closed es p.1)
+pub all_closed : (es : List Tree) → are_form_parts es ≡ true → AllClosed es
+all_closed [] h = tt
+all_closed (e ∷ es) h = let p = and_parts (is_form_part e) (are_form_parts es) h in (closed e p.0, all_closed es p.1)
 
 proved-end : (c : Canon) (e : End) → is_proved (answer_for c e) ≡ true → (k : ℕ) × (e ≡ Closed k)
 proved-end c (Closed k) h = (k, refl)
@@ -63,7 +63,7 @@ unfolding end_of
 derives proves n c form h =
     let f = and_parts (are_form_parts c.facts) (is_form_part c.goal) form in
     let e = proved-end c (end_of n c) h in
-    let r = proves c.facts c.goal n e.0 (all-closed c.facts f.0) (closed c.goal f.1) e.1 in
+    let r = proves c.facts c.goal n e.0 (all_closed c.facts f.0) (closed c.goal f.1) e.1 in
     (neg_left c.goal r.0, r.2)
 
 pub valid : FormsAreFormulas → ClosedIsValid → ProvedIsValid

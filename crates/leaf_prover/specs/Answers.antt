@@ -1,17 +1,10 @@
 -- The answer of the written search to a canonical form.
-use Rattle.std.specs.Prelude.{◌≡◌, ℕ, zero, suc, Bool, true, false, List, [], ◌∷◌, Option, Some, None, length}
+use Rattle.std.specs.Prelude.{◌≡◌, ℕ, Bool, true, false, List, Option, Some, None, length}
 use Rattle.core_expr.specs.declared.canon.Canon.{Canon}
-use Rattle.core_expr.specs.Tree.Tree.{app}
-use Rattle.core_expr.specs.Tree.Parts.{end}
-use Rattle.core_expr.specs.Nodes.{canon_sym}
-use Rattle.seq_calculus.specs.Calculus.{Correct}
-use Rattle.seq_calculus.specs.Steps.{proof_of}
 use Rattle.search_definition.specs.Terms.{when}
-use Rattle.search_definition.specs.Branches.{Branch, has}
+use Rattle.search_definition.specs.Branches.{Branch}
 use Rattle.search_definition.specs.Search.{End, search}
 use Rattle.search_definition.specs.Search.End.{Closed, Saturated as Open, Spent as Cut}
-use Rattle.proof_cache.specs.declared.verdict.Verdict.{Verdict}
-use Rattle.proof_cache.specs.declared.verdict.Verdict.TheVariants as verdict
 use Rattle.propositional_laws.specs.Formulas.{is_propositional_canon, symbol_count}
 use Rattle.propositional_laws.specs.Valuations.{valuation}
 use Rattle.leaf_prover.specs.declared.answer.Answer.{Answer}
@@ -45,19 +38,12 @@ is_proved (Proved turns) = true
 is_proved (Saturated values turns) = false
 is_proved (Spent turns) = false
 
--- the verdict is the answer to the form, and a proof comes with it that is correct for the form
-abbrev pub IsRight : ℕ → Canon → Verdict → Type 0
-IsRight n c (verdict.Proved p turns cached) = (answer n c ≡ Proved turns) × (cached ≡ false) × Correct (proof_of p) c.facts (c.goal ∷ [])
-IsRight n c (verdict.Saturated values turns) = answer n c ≡ Saturated values turns
-IsRight n c (verdict.Spent turns) = answer n c ≡ Spent turns
-IsRight n c verdict.Memory = ⊥
-
 -- values of so many symbols, where there are values
 abbrev pub HasValues : ℕ → Option (List Bool) → Type 0
 HasValues n None = Unit {0}
 HasValues n (Some values) = length values ≡ n
 
--- the values of a saturated verdict are those of so many symbols
-abbrev pub WithValues : ℕ → Verdict → Type 0
-WithValues n (verdict.Saturated values turns) = HasValues n values
+-- the values of a saturated answer are those of so many symbols
+abbrev pub WithValues : ℕ → Answer → Type 0
+WithValues n (Saturated values turns) = HasValues n values
 WithValues n _ = Unit {0}

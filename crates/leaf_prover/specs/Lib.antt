@@ -1,3 +1,5 @@
+pub mod Fresh
+pub mod Marks
 pub mod Forms
 pub mod Answers
 pub mod Laws

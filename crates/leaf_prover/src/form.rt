@@ -1,6 +1,5 @@
 //! Which canonical forms the search can take.
-ghost use Rattle.std.specs.Prelude.{◌≡◌, map};
-ghost use Rattle.std.specs.List.{list_all};
+ghost use Rattle.std.specs.Prelude.{◌≡◌};
 ghost use Rattle.core_expr.specs.Heads.{is_canonical_kind, is_canonical};
 ghost use Rattle.core_expr.specs.Terms.{is_scoped};
 ghost use Rattle.leaf_prover.specs.Forms as spec;

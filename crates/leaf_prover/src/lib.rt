@@ -1,8 +1,10 @@
-//! What the written search answers to canonical forms.
+//! The written search's answer to a canonical form.
 //!
 //! To the layer above this crate promises:
 //! - [`is_form`] says exactly whether the facts and the goal are closed expressions over canonical symbols without a temporal mark: those
 //!   that the search over shared nodes can take.
+//! - [`answer_to`] answers what the written search answers to such a form with a limit of turns: proved, saturated, with the values of its
+//!   symbols where the form is propositional, or spent. Want of memory is the only other answer.
 //! - What answers mean, of the definition in `specs/Answers.antt`: the goal of a proved form has a derivation from its facts
 //!   ([`proved_derives`]), values that are found falsify their form ([`values_are_right`]), and with enough turns a propositional form is
 //!   proved exactly where nothing falsifies it ([`enough_turns_decide`]).
@@ -11,7 +13,12 @@
 mod answer;
 mod form;
 mod laws;
+mod search;
+mod start;
+mod unused;
+mod values;
 
 pub use answer::Answer;
 pub use form::is_form;
 pub use laws::{enough_turns_decide, proved_derives, values_are_right};
+pub use search::answer_to;

@@ -2,7 +2,6 @@
 
 ghost use Rattle.std.specs.Prelude.{◌≡◌, [], length, fold, map, OnOk};
 ghost use Rattle.tla_ast.specs.declared.tree.Node.{out-Node};
-ghost use Rattle.tla_ast.specs.declared.tree.Group.{out-Group};
 ghost use Rattle.tla_ast.specs.declared.tree.Path.{out-Path};
 ghost use Rattle.plain_syntax.specs.Syntax.{term_of, terms_of};
 ghost use Rattle.module_scope.specs.Known.{book_of, texts, parts_in};

@@ -22,7 +22,7 @@ use Rattle.tla_ast.specs.declared.unit.UnitKind.{UnitKind}
 use Rattle.tla_ast.specs.declared.unit.UnitKind.TheVariants as u
 use Rattle.tla_ast.specs.declared.unit.Module.{Module}
 use Rattle.plain_syntax.specs.Plain as plain
-use Rattle.plain_syntax.specs.Plain.{Text, Term, Terms, Shape, Updates, Keys, Groups, Defs, Steps}
+use Rattle.plain_syntax.specs.Plain.{Term, Terms, Shape, Updates, Keys, Groups, Defs, Steps}
 use Rattle.plain_syntax.specs.Plain.Term.{term}
 use Rattle.plain_syntax.specs.Plain.Terms.{none, part}
 use Rattle.plain_syntax.specs.Plain.Shape.{name, call, number, text, prefixed, infixed, prime, index, field, enum, filter, image, tuple, function, functions, except, fields, field_sets, box, angle, junction, quantifier, choice, conditional, cases, local, at, fair}

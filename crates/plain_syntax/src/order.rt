@@ -1,7 +1,7 @@
 //! The order in which a walk meets the operators of an expression.
 
 ghost use Rattle.std.specs.Prelude.{◌≡◌, ◌≤◌, ◌++◌, map, All, IfOk, OnOk};
-ghost use Rattle.tla_ast.specs.declared.tree.Node.{out-Node, size-Node};
+ghost use Rattle.tla_ast.specs.declared.tree.Node.{size-Node};
 ghost use Rattle.plain_syntax.specs.Syntax.{term_of};
 ghost use Rattle.plain_syntax.specs.Order as spec;
 

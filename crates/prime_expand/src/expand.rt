@@ -1,10 +1,9 @@
 //! Cores of expressions, and bodies of definitions.
 
-ghost use Rattle.std.specs.Prelude.{◌≡◌, ◌+◌, ◌∷◌, ◌++◌, [], length, IfOk};
+ghost use Rattle.std.specs.Prelude.{◌≡◌, ◌+◌, ◌∷◌, [], length, IfOk};
 ghost use Rattle.tla_ast.specs.declared.tree.Def.{out-Def};
 ghost use Rattle.plain_syntax.specs.Syntax.{term_of};
 ghost use Rattle.symbol_table.specs.Scoped as table;
-ghost use Rattle.prime_expand.specs.Both.{same};
 ghost use Rattle.prime_expand.specs.Core as spec;
 ghost use Rattle.prime_expand.specs.Bodies.{symbol_in, body_in};
 ghost use Rattle.prime_expand.specs.Env.{means, entries, arguing};

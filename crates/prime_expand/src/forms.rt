@@ -1,6 +1,6 @@
 //! The forms of expressions that lead to several nodes.
 
-ghost use Rattle.std.specs.Prelude.{◌≡◌, ◌++◌, map, IfOk, OnOk};
+ghost use Rattle.std.specs.Prelude.{◌≡◌, map, IfOk};
 ghost use Rattle.core_expr.specs.Tree.{eq_, in_, apply_, str_};
 ghost use Rattle.core_expr.specs.Tree.Tree.{bound};
 ghost use Rattle.core_expr.specs.declared.head.Head.TheVariants.{False, Not, Or, Apply};

@@ -2,7 +2,7 @@
 use Rattle.std.specs.Prelude.{Bool, true, false}
 use Rattle.core_expr.specs.declared.canon.Canon.{Canon}
 use Rattle.proof_cache.specs.declared.verdict.Verdict.{Verdict}
-use Rattle.proof_cache.specs.declared.verdict.Verdict.TheVariants.{Proved, Saturated, Spent, Memory}
+use Rattle.proof_cache.specs.declared.verdict.Verdict.TheVariants.{Proved, Memory}
 
 -- the job is not proved
 abbrev pub is_failed : Verdict → Bool

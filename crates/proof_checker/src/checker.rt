@@ -1,13 +1,10 @@
 //! Whether a proof is correct.
-ghost use Rattle.std.specs.Prelude.{◌≡◌, ◌↔◌, ◌++◌, ◌∷◌, [], length, map, IfOk, OnOk, IsTrue};
+ghost use Rattle.std.specs.Prelude.{◌≡◌, ◌↔◌, ◌∷◌, [], IfOk, OnOk, IsTrue};
 ghost use Rattle.core_expr.specs.Heads.{IsCanonical};
-ghost use Rattle.core_expr.specs.Nodes.{AreBelow, AreNodes, IsNode, picked, trees_of, tree_over};
 ghost use Rattle.core_expr.specs.Put.{IsScoped};
-ghost use Rattle.term_bank.specs.Banks.{Extends, HasTree};
+ghost use Rattle.term_bank.specs.Banks.{Extends};
 ghost use Rattle.seq_calculus.specs.Calculus.{Correct, AllClosed};
-ghost use Rattle.seq_calculus.specs.Lists.{node_of};
 ghost use Rattle.seq_calculus.specs.Steps.{proof_of};
-ghost use Rattle.proof_checker.specs.Sides.{seen, AreFormulas};
 ghost use Rattle.proof_checker.specs.Runs.{AreCanonical, AreFacts};
 
 use crate::nodes::add_table;

@@ -1,11 +1,10 @@
 //! The schemas as nodes over their parameters.
-ghost use Rattle.std.specs.Prelude.{map, ◌≡◌, ◌<◌, ◌++◌, ◌∷◌, [], length, IfOk, IfSome, IfNone, IsTrue};
+ghost use Rattle.std.specs.Prelude.{map, ◌≡◌, ◌<◌, ◌∷◌, [], length, IfOk, IfSome, IfNone, IsTrue};
 ghost use Rattle.std.proofs.Common.{get_or};
 ghost use Rattle.core_expr.specs.Put.{IsScoped, inst};
-ghost use Rattle.core_expr.specs.Nodes.{AreBelow, AreNodes, picked, trees_from};
-ghost use Rattle.term_bank.specs.Banks.{Extends, HasTree, tree_at};
+ghost use Rattle.core_expr.specs.Nodes.{AreBelow, picked};
+ghost use Rattle.term_bank.specs.Banks.{Extends, tree_at};
 ghost use Rattle.proof_checker.specs.declared.pattern.Opening.TheVariants.{Chosen};
-ghost use Rattle.proof_checker.specs.Tables.{cells_of, ArePlaced};
 ghost use Rattle.proof_checker.specs.Schemas.{pattern_at, cell_list, opening_at, opened, IsOpen, HasPattern, AreOpened, takes_opening, IsBuilt};
 
 use crate::nodes::Cell::{Leaf, One, Three, Two};

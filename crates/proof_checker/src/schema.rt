@@ -1,5 +1,5 @@
 //! The instances of the schemas over the indices of a bank.
-ghost use Rattle.std.specs.Prelude.{◌≡◌, ◌<◌, length, IfOk};
+ghost use Rattle.std.specs.Prelude.{◌<◌, length, IfOk};
 ghost use Rattle.core_expr.specs.Nodes.{AreBelow, picked};
 ghost use Rattle.term_bank.specs.Banks.{Extends};
 ghost use Rattle.proof_checker.specs.Schemas.{IsInstance};

@@ -1,7 +1,5 @@
 //! The schemas about sets and tuples that are written out, and about literals.
-ghost use Rattle.std.specs.Prelude.{◌≡◌, ◌<◌, ◌≤◌, ◌∷◌, [], length, take, drop, false, IfOk, IsTrue};
-ghost use Rattle.std.proofs.Common.{get_or};
-ghost use Rattle.core_expr.specs.Tree.{num_};
+ghost use Rattle.std.specs.Prelude.{◌≡◌, ◌<◌, ◌∷◌, [], length, false, IfOk, IsTrue};
 ghost use Rattle.core_expr.specs.Nodes.{AreBelow, AreNodes, picked, node_fits, node_make, trees_from};
 ghost use Rattle.term_bank.specs.Banks.{Extends, HasTree, tree_at};
 ghost use Rattle.seq_calculus.specs.Schemas.{join, join_from, equal_pairs, about_enumeration, about_tuples, about_entry, tuple_meaning, are_apart};

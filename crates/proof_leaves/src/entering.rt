@@ -10,7 +10,7 @@ ghost use Rattle.proof_leaves.specs.Shown.{claim_of};
 
 use crate::step::Claim;
 use core_expr::{Expr, Head, Memory};
-use known_facts::{Context, Item, Statement, fact_of, picked};
+use known_facts::{Context, Statement, fact_of, picked};
 use std::alloc::Global;
 
 /// What is kept of the context of a step while its own proof is read: how many facts were known, and the goal.

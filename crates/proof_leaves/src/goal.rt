@@ -5,7 +5,6 @@ ghost use Rattle.core_expr.specs.Put.{inst};
 ghost use Rattle.core_expr.specs.Terms as terms;
 ghost use Rattle.proof_contexts.specs.Contexts as contexts;
 ghost use Rattle.known_facts.specs.Clean.{definitions_of};
-ghost use Rattle.known_facts.specs.Forms.{as_quantified};
 ghost use Rattle.known_facts.specs.Shown.{context_of};
 ghost use Rattle.proof_leaves.specs.Forms as forms;
 

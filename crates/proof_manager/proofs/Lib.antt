@@ -1,4 +1,5 @@
 pub mod WordLaws
+pub mod Counting
 pub mod ValueLaws
 pub mod Walks
 pub mod Tells

@@ -27,11 +27,12 @@ use Rattle.usable_facts.specs.Theorems.{is_theorem_of, all_theorems}
 use Rattle.name_places.specs.Places.{NamesDiffer, PlacesDiffer}
 use Rattle.proof_assembly.specs.Laws.{StatusesAreJustified, EachDerives}
 use Rattle.reading_places.specs.Laws.{ReadPlacesDiffer}
-use Rattle.propositional_search.specs.declared.search.Answer.{Answer as Searched}
-use Rattle.propositional_search.specs.declared.search.Answer.TheVariants.{Proved, Saturated, Spent}
-use Rattle.sequent_answer.specs.Forms.{is_propositional_canon}
-use Rattle.sequent_answer.specs.Answer.{answer, is_proved}
-use Rattle.sequent_answer.specs.Laws.{ProvedDerives, ProvedIsValid, SaturatedFalsifies, FewConnectivesEnd, FewConnectivesDecide, FormsAreNumbered}
+use Rattle.leaf_prover.specs.declared.answer.Answer.{Answer as Searched}
+use Rattle.leaf_prover.specs.declared.answer.Answer.TheVariants.{Proved, Saturated, Spent}
+use Rattle.leaf_prover.specs.Forms.{is_form}
+use Rattle.leaf_prover.specs.Answers.{turn_limit, answer, is_proved}
+use Rattle.leaf_prover.specs.Laws.{ProvedDerives, ProvedIsValid, ValuesFalsify, FewConnectivesDecide}
+use Rattle.proof_manager.proofs.Counting.{forms_are_numbered}
 use Rattle.status_report.specs.declared.table.Shown.{Shown}
 use Rattle.status_report.specs.declared.table.LeafIn.{LeafIn}
 use Rattle.status_report.specs.declared.table.TheoremIn.{TheoremIn}
@@ -67,9 +68,9 @@ ok-is e = cc
 
 -- ---- leaves
 
--- the canonical form of a leaf that is answered is propositional
+-- the canonical form of a leaf that is answered is one of closed formulas
 abbrev IsAnswered : Canon → Type 0
-IsAnswered c = is_propositional_canon c ≡ true
+IsAnswered c = is_form c ≡ true
 
 searched-form : (b : Bool) (s t : Shown) (e : ScopeFault) → ◌≡◌ {A = Answer Shown} (if b then Ok s else Err e) (Ok t) → (b ≡ true) × (s ≡ t)
 searched-form true s t e h = (refl, cc)
@@ -84,8 +85,8 @@ module _ (es : List Entry) where
   kind-answered : (owner : Text) (p : Place) (k : LeafKind) (s : Shown) → shown_kind es owner p k ≡ Ok s → OfKind IsAnswered k × (verdict_of s ≡ verdict verdict_on k)
   kind-answered owner p (kind.Search o) s e =
       let c = obligation_canon o in
-      let h = searched-form (is_propositional_canon c) _ s (form owner p) e in
-      (h.0, sym (ap verdict_of h.1) ∙ shown-verdict _ (answer c) ∙ sym (ap (λ b. if b then as_verdict (answer c) else Verdict.Unproved) h.0))
+      let h = searched-form (is_form c) _ s (form owner p) e in
+      (h.0, sym (ap verdict_of h.1) ∙ shown-verdict _ (answer turn_limit c) ∙ sym (ap (λ b. if b then as_verdict (answer turn_limit c) else Verdict.Unproved) h.0))
   kind-answered owner p kind.Missing s e = (tt, ap verdict_of (sym (ok-is e)))
   kind-answered owner p kind.Omitted s e = (tt, ap verdict_of (sym (ok-is e)))
   kind-answered owner p kind.Temporal s e = (tt, ap verdict_of (sym (ok-is e)))
@@ -155,7 +156,7 @@ module _ (es : List Entry) where
         (subst (λ (m : ModuleIn). StandFor table is_theorem verdict_on (m.theorems ++ reported_theorems b.0) xs) (ok-is t.2)
         (theorems-stand c.name c.theorems t.0 (reports_in cs) (reported_theorems b.0) xs t.1 r (λ ys h. chapters-stand cs b.0 ys b.1 h)))
 
--- ---- what is so of propositional forms is so of all that are answered
+-- ---- what is so of forms is so of all that are answered
 
 of-leaves : (P : Canon → Type 0) → ((o : Obligation) → IsAnswered (obligation_canon o) → P (obligation_canon o)) → (ls : List Leaf) → OfLeaves IsAnswered ls → OfLeaves P ls
 of-leaves P f [] h = tt
@@ -205,7 +206,7 @@ read-right folder root r e =
     })
 
 sound : ProvedDerives → IsSound verdict_on
-sound derives c e = by (is_propositional_canon c) refl
+sound derives c e = by (is_form c) refl
   where
     proved : (a : Searched) → as_verdict a ≡ Verdict.Proved → is_proved a ≡ true
     proved (Proved turns) h = refl
@@ -215,9 +216,9 @@ sound derives c e = by (is_propositional_canon c) refl
     never : Verdict.Unproved ≡ Verdict.Proved → ⊥
     never h = cc
 
-    by : (b : Bool) → is_propositional_canon c ≡ b → IsDerived c
-    by true h = derives c h (proved (answer c) (sym (ap (λ b. if b then as_verdict (answer c) else Verdict.Unproved) h) ∙ e))
-    by false h = absurd (never (sym (ap (λ b. if b then as_verdict (answer c) else Verdict.Unproved) h) ∙ e))
+    by : (b : Bool) → is_form c ≡ b → IsDerived c
+    by true h = derives turn_limit c h (proved (answer turn_limit c) (sym (ap (λ b. if b then as_verdict (answer turn_limit c) else Verdict.Unproved) h) ∙ e))
+    by false h = absurd (never (sym (ap (λ b. if b then as_verdict (answer turn_limit c) else Verdict.Unproved) h) ∙ e))
 
 right-derives : ReadPlacesDiffer → StatusesAreJustified → StatusesAgree → ChaptersReport → ProvedDerives → (r : Read) → IsRight r → NamesDiffer r.modules
     → EachDerives (definitions_of r.modules r.table) (all_theorems r.modules r.table) (statuses_of r.judged)
@@ -230,18 +231,22 @@ right-derives places justified agree report derives r h names =
     (chapters-stand r.table.entries table is_theorem (chapters_of r.modules r.table) r.judged (all_theorems r.modules r.table) h.judged (report r.modules r.table))))
     (justified r.modules r.table verdict_on h.resolved names (subst PlacesDiffer l.4 (loads-apart places None l.0 l.1 l.2 l.3)) (sound derives))
 
-pub read_is_just : ReadPlacesDiffer → StatusesAreJustified → StatusesAgree → ChaptersReport → ProvedDerives → ProvedIsValid → SaturatedFalsifies → FormsAreNumbered → ReadIsJust
-read_is_just places justified agree report derives valid falsifies numbered folder root r e names =
+pub read_is_just : ReadPlacesDiffer → StatusesAreJustified → StatusesAgree → ChaptersReport → ProvedDerives → ProvedIsValid → ValuesFalsify → ReadIsJust
+read_is_just places justified agree report derives valid falsifies folder root r e names =
     let h = read-right folder root r e in
     record {
       derived = λ js told. each-derives (definitions_of r.modules r.table) (all_theorems r.modules r.table) (reported_theorems js) (reported_theorems r.judged) nothing nothing (λ k d. d) (all-told js r.judged told)
           (right-derives places justified agree report derives r h names);
-      leaves = of-chapters IsJustForm (λ o p. record { valid = valid (obligation_canon o) p; falsified = falsifies (obligation_canon o) p (numbered (map (unfolded o.defs) o.facts) (unfolded o.defs o.goal)) }) (chapters_of r.modules r.table)
+      leaves = of-chapters IsJustForm (λ o p. record {
+        derived = derives turn_limit (obligation_canon o) p;
+        valid = valid turn_limit (obligation_canon o);
+        falsified = falsifies turn_limit (obligation_canon o) (forms_are_numbered (map (unfolded o.defs) o.facts) (unfolded o.defs o.goal));
+      }) (chapters_of r.modules r.table)
           (chapters-answered r.table.entries [] (λ k. false) (chapters_of r.modules r.table) r.judged h.judged);
     }
 
-pub read_is_decided : FewConnectivesEnd → FewConnectivesDecide → ReadIsDecided
-read_is_decided ends decides folder root r e =
+pub read_is_decided : FewConnectivesDecide → ReadIsDecided
+read_is_decided decides folder root r e =
     let h = read-right folder root r e in
-    of-chapters IsDecidedForm (λ o p. record { ended = λ few turns. ends (obligation_canon o) p turns few; decided = decides (obligation_canon o) p }) (chapters_of r.modules r.table)
+    of-chapters IsDecidedForm (λ o p. decides (obligation_canon o)) (chapters_of r.modules r.table)
     (chapters-answered r.table.entries [] (λ k. false) (chapters_of r.modules r.table) r.judged h.judged)

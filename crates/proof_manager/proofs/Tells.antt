@@ -12,12 +12,12 @@ use Rattle.proof_contexts.specs.Canonical.{obligation_canon}
 use Rattle.canonical_form.specs.Named.{names_of}
 use Rattle.theorem_leaves.specs.declared.chapter.TheoremLeaves.{TheoremLeaves}
 use Rattle.theorem_leaves.specs.declared.chapter.Chapter.{Chapter}
-use Rattle.sequent_answer.specs.Forms.{is_propositional_canon}
-use Rattle.sequent_answer.specs.Answer.{answer}
+use Rattle.leaf_prover.specs.Forms.{is_form}
+use Rattle.leaf_prover.specs.Answers.{turn_limit, answer}
 use Rattle.tla_ast.specs.declared.fault.ScopeFault.{ScopeFault}
 use Rattle.tla_ast.specs.declared.fault.ScopeFault.TheVariants as fault
-use Rattle.propositional_search.specs.declared.search.Answer.{Answer as Searched}
-use Rattle.propositional_search.specs.declared.search.Answer.TheVariants.{Proved, Saturated, Spent}
+use Rattle.leaf_prover.specs.declared.answer.Answer.{Answer as Searched}
+use Rattle.leaf_prover.specs.declared.answer.Answer.TheVariants.{Proved, Saturated, Spent}
 use Rattle.status_report.specs.declared.table.Shown.{Shown}
 use Rattle.status_report.specs.declared.table.Shown.TheVariants as shown
 use Rattle.status_report.specs.declared.table.LeafIn.{LeafIn}
@@ -79,10 +79,10 @@ answer-unanswered names (Spent turns) = refl
 pub told-as-defined : (s : Shown) (r : Answer Shown) → r ≡ Ok s → Tells ShownTold (Ok s) r
 told-as-defined s r h = (s, h, (true, refl))
 
-pub search-wants : (es : List Entry) (owner : Text) (p : Place) (o : Obligation) → is_propositional_canon (obligation_canon o) ≡ true → Tells ShownTold (Ok shown.Memory) (searched es owner p o)
+pub search-wants : (es : List Entry) (owner : Text) (p : Place) (o : Obligation) → is_form (obligation_canon o) ≡ true → Tells ShownTold (Ok shown.Memory) (searched es owner p o)
 search-wants es owner p o h =
     let names = map (symbol_text es) (names_of o) in
-    let a = answer (obligation_canon o) in
+    let a = answer turn_limit (obligation_canon o) in
     (shown_answer names a, ap (λ b. if b then Ok (shown_answer names a) else Err (form owner p)) h, (false, sym (answer-unanswered names a)))
 
 pub leaf-told : (es : List Entry) (owner : Text) (l : Leaf) (s : Shown) → Tells ShownTold (Ok s) (shown_kind es owner l.place l.kind) → Tells LeafTold (Ok (record { place = l.place; verdict = s })) (judged_leaf es owner l)

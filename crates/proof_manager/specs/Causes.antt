@@ -1,5 +1,5 @@
 -- Each status of a run has its cause.
-use Rattle.std.specs.Prelude.{◌≡◌, ◌↔◌, ℕ, ◌≤◌, ◌<◌, Bool, true, false, List, [], ◌∷◌, Option, None, Some, IsSome, Result, Ok, Err, length, take}
+use Rattle.std.specs.Prelude.{◌≡◌, ℕ, ◌≤◌, ◌<◌, Bool, true, false, List, [], ◌∷◌, Option, None, Some, IsSome, Result, Ok, Err, length, take}
 use Rattle.std.specs.List.{list_all}
 use Rattle.tla_io.specs.Causes.{Rose}
 use Rattle.tla_io.specs.Told.{Bytes, Folder, with_more}
@@ -8,10 +8,13 @@ use Rattle.plain_syntax.specs.Plain.{Module}
 use Rattle.module_shelf.specs.declared.fault.LoadFault.{LoadFault}
 use Rattle.module_shelf.specs.declared.fault.LoadFault.TheVariants as load
 use Rattle.core_expr.specs.declared.canon.Canon.{Canon}
-use Rattle.tableau_definition.specs.Propositional.{Falsifies, by_number, all_connectives}
-use Rattle.propositional_search.specs.declared.search.Answer.TheVariants.{Saturated, Spent}
-use Rattle.sequent_answer.specs.Answer.{answer, is_proved}
-use Rattle.sequent_answer.specs.Laws.{IsValid}
+use Rattle.seq_calculus.specs.Calculus.{Der}
+use Rattle.valuation.specs.Truth.{Falsifies, by_number}
+use Rattle.propositional_laws.specs.Formulas.{all_connectives, is_propositional_canon}
+use Rattle.propositional_laws.specs.Valuations.{IsValid}
+use Rattle.leaf_prover.specs.declared.answer.Answer.TheVariants.{Saturated}
+use Rattle.leaf_prover.specs.Answers.{turn_limit, answer, is_proved}
+use Rattle.leaf_prover.specs.Laws as laws
 use Rattle.proof_contexts.specs.declared.leaf.Leaf.{Leaf}
 use Rattle.proof_contexts.specs.declared.leaf.LeafKind.{LeafKind}
 use Rattle.proof_contexts.specs.declared.leaf.LeafKind.TheVariants as kind
@@ -136,11 +139,12 @@ abbrev pub OfChapters : (Canon → Type 0) → List Chapter → Type 0
 OfChapters P [] = Unit {0}
 OfChapters P (c ∷ cs) = OfTheorems P c.theorems × OfChapters P cs
 
--- No valuation falsifies a leaf that is proved, and the values that are printed of one falsify its canonical form: they make its
--- facts true and its goal false.
+-- The goal of a leaf that is proved has a derivation from its facts, and no valuation falsifies a propositional leaf that is proved. The
+-- values that are printed of a leaf falsify its canonical form: they make its facts true and its goal false.
 pub record IsJustForm (c : Canon) : Type 0 where
-  pub valid : is_proved (answer c) ≡ true → IsValid c
-  pub falsified : (values : List Bool) (turns : ℕ) → answer c ≡ Saturated values turns → Falsifies (by_number values) c.facts c.goal
+  pub derived : is_proved (answer turn_limit c) ≡ true → Der c.facts (c.goal ∷ [])
+  pub valid : is_propositional_canon c ≡ true → is_proved (answer turn_limit c) ≡ true → IsValid c.facts c.goal
+  pub falsified : (values : List Bool) (turns : ℕ) → answer turn_limit c ≡ Saturated (Some values) turns → Falsifies (by_number values) c.facts c.goal
 
 -- Each theorem that is reported proved, whichever searches found memory, has a derivation of its fully expanded fact from the fully
 -- expanded assumptions before it alone. What is reported of its leaves is so of them.
@@ -151,10 +155,10 @@ pub record IsJust (r : Read) : Type 0 where
 abbrev pub Justified : Status → Option Folder → Option Bytes → Type 0
 Justified = WhereReported IsJust
 
--- Where a leaf's canonical form has at most 15 connectives, the turns suffice, and it is proved exactly where no valuation falsifies it.
-pub record IsDecidedForm (c : Canon) : Type 0 where
-  pub ended : all_connectives c.facts c.goal ≤ 15 → (turns : ℕ) → answer c ≡ Spent turns → ⊥
-  pub decided : all_connectives c.facts c.goal ≤ 15 → (is_proved (answer c) ≡ true) ↔ IsValid c
+-- Where a leaf's canonical form is propositional and has at most 15 connectives, the turns suffice, and it is proved exactly where no
+-- valuation falsifies it.
+abbrev pub IsDecidedForm : Canon → Type 0
+IsDecidedForm c = is_propositional_canon c ≡ true → all_connectives c.facts c.goal ≤ 15 → laws.IsDecided turn_limit c
 
 abbrev pub IsDecided : Read → Type 0
 IsDecided r = OfChapters IsDecidedForm (chapters_of r.modules r.table)

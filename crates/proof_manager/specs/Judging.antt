@@ -1,5 +1,5 @@
 -- What leaves come to by the written search, or the first leaf that is not answered yet.
-use Rattle.std.specs.Prelude.{if◌then◌else◌, List, [], ◌∷◌, map, Some, Result, Ok, Err, codes}
+use Rattle.std.specs.Prelude.{if◌then◌else◌, List, [], ◌∷◌, map, option_map, Result, Ok, Err, codes}
 use Rattle.core_expr.specs.declared.canon.Canon.{Canon}
 use Rattle.tla_ast.specs.declared.place.Place.{Place}
 use Rattle.tla_ast.specs.declared.fault.ScopeFault.{ScopeFault}
@@ -14,8 +14,8 @@ use Rattle.proof_contexts.specs.declared.leaf.LeafKind.TheVariants as kind
 use Rattle.proof_contexts.specs.Canonical.{obligation_canon}
 use Rattle.proof_contexts.specs.Statuses.{Verdict}
 use Rattle.canonical_form.specs.Named.{names_of}
-use Rattle.propositional_search.specs.declared.search.Answer.{Answer as Searched}
-use Rattle.propositional_search.specs.declared.search.Answer.TheVariants.{Proved, Saturated, Spent}
+use Rattle.leaf_prover.specs.declared.answer.Answer.{Answer as Searched}
+use Rattle.leaf_prover.specs.declared.answer.Answer.TheVariants.{Proved, Saturated, Spent}
 use Rattle.theorem_leaves.specs.declared.chapter.TheoremLeaves.{TheoremLeaves}
 use Rattle.theorem_leaves.specs.declared.chapter.Chapter.{Chapter}
 use Rattle.status_report.specs.declared.table.Shown.{Shown}
@@ -23,8 +23,8 @@ use Rattle.status_report.specs.declared.table.Shown.TheVariants as shown
 use Rattle.status_report.specs.declared.table.LeafIn.{LeafIn}
 use Rattle.status_report.specs.declared.table.TheoremIn.{TheoremIn}
 use Rattle.status_report.specs.declared.table.ModuleIn.{ModuleIn}
-use Rattle.sequent_answer.specs.Forms.{is_propositional_canon}
-use Rattle.sequent_answer.specs.Answer.{answer}
+use Rattle.leaf_prover.specs.Forms.{is_form}
+use Rattle.leaf_prover.specs.Answers.{turn_limit, answer}
 use Rattle.proof_manager.specs.Values.{symbol_text, valuation_text}
 
 -- ---- answers
@@ -47,17 +47,17 @@ each f (x ∷ xs) = and_then (f x) (λ y. and_then (each f xs) (λ ys. Ok (y ∷
 -- what is shown of an answer to a canonical form, whose symbols have these names
 abbrev pub shown_answer : List Text → Searched → Shown
 shown_answer names (Proved turns) = shown.Proved turns
-shown_answer names (Saturated values turns) = shown.Saturated turns (Some (valuation_text names values))
+shown_answer names (Saturated values turns) = shown.Saturated turns (option_map (valuation_text names) values)
 shown_answer names (Spent turns) = shown.Spent turns
 
--- the refusal of what is not built yet, at this place of the module
+-- the refusal of a leaf whose canonical form is no list of closed formulas, at this place of the module
 abbrev pub form : Text → Place → ScopeFault
 form owner p = fault.At owner p (Unsupported (codes "form"))
 
--- an obligation that is to be proved: answered where its canonical form is propositional
+-- an obligation that is to be proved: the search answers canonical forms of closed formulas
 abbrev pub searched : List Entry → Text → Place → Obligation → Answer Shown
 searched es owner p o =
-    if is_propositional_canon (obligation_canon o) then Ok (shown_answer (map (symbol_text es) (names_of o)) (answer (obligation_canon o)))
+    if is_form (obligation_canon o) then Ok (shown_answer (map (symbol_text es) (names_of o)) (answer turn_limit (obligation_canon o)))
     else Err (form owner p)
 
 abbrev pub shown_kind : List Entry → Text → Place → LeafKind → Answer Shown
@@ -91,4 +91,4 @@ as_verdict (Saturated values turns) = Verdict.Unproved
 as_verdict (Spent turns) = Verdict.Unproved
 
 abbrev pub verdict_on : Canon → Verdict
-verdict_on c = if is_propositional_canon c then as_verdict (answer c) else Verdict.Unproved
+verdict_on c = if is_form c then as_verdict (answer turn_limit c) else Verdict.Unproved

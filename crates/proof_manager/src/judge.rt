@@ -1,7 +1,7 @@
 //! What leaves come to.
 
 ghost use Rattle.std.specs.Prelude.{◌≡◌, length, map, IfOk};
-ghost use Rattle.sequent_answer.specs.Answer.{HasValues};
+ghost use Rattle.leaf_prover.specs.Answers.{WithValues};
 ghost use Rattle.proof_manager.specs.Judging as spec;
 ghost use Rattle.proof_manager.specs.Told.{Tells, EachTold, ShownTold, LeafTold, TheoremTold, ModuleTold, ModulesTold};
 ghost use Rattle.proof_manager.specs.Values.{symbol_text, valuation_text};
@@ -9,10 +9,10 @@ ghost use Rattle.proof_manager.specs.Values.{symbol_text, valuation_text};
 use crate::values::push_valuation;
 use canonical_form::canon;
 use core_expr::{Memory, Sym, Text};
+use leaf_prover::{Answer, answer_to, is_form};
 use obligation::Obligation;
+use proof_cache::Limit;
 use proof_contexts::{Leaf, LeafKind};
-use propositional_search::Answer;
-use sequent_answer::{answer_to, canonical_forms, is_propositional};
 use sqlite_items::Items;
 use status_report::{LeafIn, ModuleIn, Shown, TheoremIn};
 use std::alloc::Global;
@@ -46,14 +46,21 @@ fn valuation(
 
 /// What is shown of an answer.
 fn shown(alloc: Global, scoped: &Scoped, symbols: &[Sym], answer: &Answer) -> Result<Shown, Memory>
-    requires { HasValues (length symbols.now) answer.now }
+    requires { WithValues (length symbols.now) answer.now }
     ensures { IfOk result (λ s. s ≡ spec.shown_answer
         (map (symbol_text scoped.now.entries) symbols.now) answer.now) }
 {
     match answer {
         Answer::Proved { turns } => Ok(Shown::Proved(*turns)),
         Answer::Spent { turns } => Ok(Shown::Spent(*turns)),
-        Answer::Saturated { values, turns } => {
+        Answer::Saturated {
+            values: None,
+            turns,
+        } => Ok(Shown::Saturated(*turns, None)),
+        Answer::Saturated {
+            values: Some(values),
+            turns,
+        } => {
             let text = valuation(alloc, scoped, symbols, values.as_slice())?;
             Ok(Shown::Saturated(*turns, Some(text)))
         }
@@ -61,7 +68,7 @@ fn shown(alloc: Global, scoped: &Scoped, symbols: &[Sym], answer: &Answer) -> Re
 }
 
 impl Court<'_> {
-    /// The refusal of what is not built yet.
+    /// The refusal of a leaf whose canonical form the search cannot take.
     fn left_out(&self, place: Place) -> Result<ScopeFault, Memory>
         ensures { IfOk result (λ e. e ≡ spec.form self.now.«module».now place) }
     {
@@ -78,11 +85,10 @@ impl Court<'_> {
             (spec.searched self.now.scoped.now.entries self.now.«module».now place of.now) }
     {
         let named = canon(self.alloc, of)?;
-        if !is_propositional(&named.canon) {
+        if !is_form(&named.canon) {
             return Err(self.left_out(place)?);
         }
-        canonical_forms();
-        let Ok(answer) = answer_to(self.alloc, &named.canon, named.names.len() as u64) else {
+        let Ok(answer) = answer_to(self.alloc, &named.canon, Limit::standard()) else {
             return Ok(Shown::Memory);
         };
         match shown(self.alloc, self.scoped, named.names.as_slice(), &answer) {

@@ -2,11 +2,9 @@
 
 ghost use Rattle.proof_manager.specs.Causes.{ReadIsJust, ReadIsDecided};
 
+use leaf_prover::{enough_turns_decide, proved_derives, values_are_right};
 use proof_assembly::statuses_are_justified;
 use reading_places::read_places_differ;
-use sequent_answer::{
-    canonical_forms, few_connectives_are_decided, proved_holds, saturated_falsifies,
-};
 use status_report::statuses_agree;
 use theorem_leaves::chapters_report;
 
@@ -20,8 +18,7 @@ pub fn reports_are_just()
     statuses_are_justified();
     statuses_agree();
     chapters_report();
-    proved_holds();
-    saturated_falsifies();
-    canonical_forms();
-    few_connectives_are_decided();
+    proved_derives();
+    values_are_right();
+    enough_turns_decide();
 }

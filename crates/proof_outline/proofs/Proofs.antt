@@ -1,5 +1,5 @@
 -- Proofs of the source as plain data, form by form, and the walk over them.
-use Rattle.std.proofs.Common.{◌≡◌, ℕ, Bool, true, false, ◌||◌, List, [], ◌∷◌, length, map, refl, sym, ap, subst, ◌∙◌}
+use Rattle.std.proofs.Common.{◌≡◌, ℕ, Bool, false, ◌||◌, List, [], ◌∷◌, length, map, refl, sym, ap, subst, ◌∙◌}
 use Rattle.std.specs.Prelude.{Result, Ok, Err, IsErrAnd}
 use Rattle.tla_ast.specs.declared.place.Place.{Place}
 use Rattle.tla_ast.specs.declared.tree.Decl.{Decl}
@@ -14,10 +14,10 @@ use Rattle.plain_syntax.specs.Plain.{Steps}
 use Rattle.plain_syntax.specs.Plain.Proof.{by_facts, steps}
 use Rattle.plain_syntax.specs.Plain.Steps.{end_steps, step}
 use Rattle.plain_syntax.specs.Syntax.{proof_of, proof_step, step_step, fact_of, move_of, joined}
-use Rattle.proof_outline.specs.Outline.{Name, State, Stop, Walk, and_then, seen_of, next_of, left, has_step, have_step, is_name_of, fresh, entered, facts_names, move_names, proof_names, steps_names}
+use Rattle.proof_outline.specs.Outline.{Name, State, Stop, Walk, and_then, seen_of, next_of, left, has_step, have_step, fresh, entered, facts_names, move_names, proof_names, steps_names}
 use Rattle.proof_outline.specs.declared.walk.Stop.{Stop as stopped}
 use Rattle.proof_outline.specs.declared.walk.Stop.TheVariants as stop
-use Rattle.proof_outline.specs.Visits.{IsStop, Does, step_names, each_step, any_step, is_step_of}
+use Rattle.proof_outline.specs.Visits.{IsStop, Does, each_step, any_step, is_step_of}
 
 unfoldable steps_of : Step → Steps → Steps
 steps_of = fold-Step plain.Proof (Steps → Steps) proof_step step_step

@@ -1,5 +1,5 @@
 //! Readers of numbers and indices.
-ghost use Rattle.std.specs.Prelude.{◌≡◌, cond, nat_lt, nat_eq};
+ghost use Rattle.std.specs.Prelude.{◌≡◌};
 ghost use Rattle.proof_text.specs.Reading.{Reads};
 ghost use Rattle.proof_text.specs.Readers.{below, count_test, number_test, numbers, byte_count, index_count, last_of, tail_operands, operands, counted, weak_operands};
 

@@ -1,5 +1,5 @@
 //! Readers of tables of expressions.
-ghost use Rattle.std.specs.Prelude.{◌≡◌, ◌&&◌, ◌||◌, nat_eq, nat_lt};
+ghost use Rattle.std.specs.Prelude.{◌≡◌, ◌&&◌, ◌||◌};
 ghost use Rattle.proof_text.specs.Reading.{Reads, ReadsAs, number};
 ghost use Rattle.proof_text.specs.Readers.{has_room, head_test, node, nodes, table};
 

@@ -1,5 +1,5 @@
 //! What a writer holds, and how a step comes to the end.
-ghost use Rattle.std.specs.Prelude.{◌≡◌, ◌<◌, ◌≤◌, ◌+◌, [], ◌∷◌, ◌++◌, length, IsTrue, OnOk, IfOk};
+ghost use Rattle.std.specs.Prelude.{◌≡◌, ◌<◌, ◌≤◌, ◌+◌, [], ◌∷◌, length, IsTrue, OnOk, IfOk};
 ghost use Rattle.core_expr.specs.Nodes.{AreBelow};
 ghost use Rattle.seq_calculus.specs.Lists.{step_fits};
 ghost use Rattle.proof_writer.specs.Written.{IsWritten, with_unused, grown};

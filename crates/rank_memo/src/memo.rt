@@ -1,11 +1,8 @@
 //! The memo.
-ghost use Rattle.std.specs.Prelude.{◌≡◌, ℕ, ◌≤◌, List, length, IfOk};
-ghost use Rattle.core_expr.specs.Tree.{Tree};
-ghost use Rattle.seq_calculus.specs.Calculus.{IsClosed};
-ghost use Rattle.branch_state.specs.declared.parts.New.{New};
+ghost use Rattle.std.specs.Prelude.{◌≡◌, List, length, IfOk};
 ghost use Rattle.branch_state.specs.Shown.{Placed};
 ghost use Rattle.entry_positions.specs.Places.{place_at};
-ghost use Rattle.rank_memo.specs.Looked.{IsLooked, number_of, position_at, moved, IsRightAt, looked_added, looked_used};
+ghost use Rattle.rank_memo.specs.Looked.{IsLooked, position_at, moved, IsRightAt, looked_added, looked_used};
 
 use crate::place::Place;
 use core_expr::Memory;

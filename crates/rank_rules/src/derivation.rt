@@ -1,5 +1,5 @@
 //! Rank derive.
-ghost use Rattle.std.specs.Prelude.{◌≡◌, ◌<◌, ◌∷◌, [], true, false, length, IfOk};
+ghost use Rattle.std.specs.Prelude.{◌≡◌, ◌<◌, ◌∷◌, [], false, length, IfOk};
 ghost use Rattle.core_expr.specs.Nodes.{AreBelow};
 ghost use Rattle.core_expr.specs.Tree.{not_, eq_, fun_};
 ghost use Rattle.core_expr.specs.Put.{IsScoped};

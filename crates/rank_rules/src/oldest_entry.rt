@@ -1,5 +1,5 @@
 //! The oldest entry that a rule fits.
-ghost use Rattle.std.specs.Prelude.{◌≡◌, ◌<◌, length, IfOk};
+ghost use Rattle.std.specs.Prelude.{◌<◌, length, IfOk};
 ghost use Rattle.term_bank.specs.Banks.{IsDistinct, Extends, tree_at};
 ghost use Rattle.seq_calculus.specs.Calculus.{AllClosed};
 ghost use Rattle.search_definition.specs.Branches.{formulas};

@@ -5,7 +5,6 @@ ghost use Rattle.core_expr.specs.Nodes.{AreBelow, picked};
 ghost use Rattle.term_bank.specs.Banks.{tree_at as bank_tree};
 ghost use Rattle.search_definition.specs.Branches.{is_not_of, is_mirror_not};
 ghost use Rattle.proof_writer.specs.Written.{opens, count, tree_at};
-ghost use Rattle.proof_writer.specs.Shapes.{leaf};
 ghost use Rattle.proof_trees.specs.Closings.{mirror_clash, unequal, apart, true_is_false, truths, lone_by, pair_by, entries_by};
 ghost use Rattle.rule_proofs.specs.Cases.{truths_by};
 

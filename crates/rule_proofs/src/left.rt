@@ -6,7 +6,7 @@ ghost use Rattle.term_bank.specs.Banks.{tree_at as bank_tree};
 ghost use Rattle.search_definition.specs.Plain.{member, left_side};
 ghost use Rattle.proof_writer.specs.Written.{opens, count, tree_at};
 ghost use Rattle.proof_writer.specs.Shapes.{first_of, rest_of, iff_left, iff_not};
-ghost use Rattle.proof_trees.specs.Simple.{left_side_by, denied_side_by, by_left, by_not_left};
+ghost use Rattle.proof_trees.specs.Simple.{left_side_by, denied_side_by, by_left};
 ghost use Rattle.proof_trees.specs.Equated.{iff_back, left_back, member_at};
 ghost use Rattle.rule_proofs.specs.Lefts.{IsLeft, AreUnder, IsRight, left_of};
 

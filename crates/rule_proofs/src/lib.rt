@@ -1,4 +1,4 @@
-//! From the steps of a search that ended closed to a flat sequent proof.
+//! Writers of the proof trees of single rules. The choice among them by rule is not here yet, so nothing is exported.
 #![tactic(auto)]
 
 mod choice;

@@ -1,7 +1,6 @@
 //! Equations of sets, and their Nots.
 ghost use Rattle.std.specs.Prelude.{◌≡◌, ◌<◌, ◌≤◌, [], ◌∷◌, ℕ, length, OnOk, IfOk};
 ghost use Rattle.core_expr.specs.Tree.{not_, eq_, all_};
-ghost use Rattle.core_expr.specs.Put.{IsScoped};
 ghost use Rattle.seq_calculus.specs.Calculus.{IsClosed};
 ghost use Rattle.search_definition.specs.Equations.{same_members};
 ghost use Rattle.proof_writer.specs.Written.{opens, count, tree_at};

@@ -2,7 +2,6 @@
 ghost use Rattle.std.specs.Prelude.{◌≡◌, ◌<◌, ◌≤◌, [], ◌∷◌, ℕ, length, OnOk};
 ghost use Rattle.proof_writer.specs.Written.{opens, count, tree_at};
 ghost use Rattle.proof_writer.specs.Shapes.{neg_left, clash, mirror, first_of, second_of, rest_of};
-ghost use Rattle.proof_trees.specs.Equated.{not_mirror};
 
 use core_expr::Memory;
 use proof_writer::{Inference, Writer};

@@ -1,6 +1,5 @@
 //! The proofs of values: a formula that is true by grounds, or the contradiction of one that is false.
-ghost use Rattle.std.specs.Prelude.{◌≡◌, ◌<◌, ◌≤◌, [], ◌∷◌, ℕ, length, OnOk, IfOk};
-ghost use Rattle.core_expr.specs.Nodes.{AreBelow, picked};
+ghost use Rattle.std.specs.Prelude.{◌≡◌, ◌<◌, ◌≤◌, [], ◌∷◌, ℕ, length, OnOk};
 ghost use Rattle.proof_writer.specs.Written.{opens, count, tree_at};
 ghost use Rattle.seq_calculus.specs.Calculus.Rule.{TrueR};
 ghost use Rattle.proof_writer.specs.Shapes.{leaf, first_of, second_of, rest_of};

@@ -3,7 +3,7 @@ ghost use Rattle.std.specs.Prelude.{◌≡◌, ◌<◌, ◌≤◌, ◌+◌, [], 
 ghost use Rattle.core_expr.specs.Nodes.{AreBelow, picked};
 ghost use Rattle.proof_writer.specs.Written.{opens, count, tree_at};
 ghost use Rattle.proof_trees.specs.Valued.{entries_of, not_by, and_by, or_by, imp_by, iff_by, shows};
-ghost use Rattle.rule_proofs.specs.Shown.{visited, one_joined, two_joined, laid, joined, after, done, opened, IsOpened, whole_shown, shown_of, IsVisited, IsTurn, AreUnder};
+ghost use Rattle.rule_proofs.specs.Shown.{one_joined, two_joined, laid, joined, done, opened, IsOpened, whole_shown, shown_of, IsVisited, IsTurn, AreUnder};
 ghost use Rattle.rule_proofs.specs.declared.tasks.Task.TheVariants.{Visit, Join};
 ghost use Rattle.search_definition.specs.Values.{opposite, both_true, one_true, implied, same_truth, truth_by};
 ghost use Rattle.search_definition.specs.Values.Truth.{Unknown};

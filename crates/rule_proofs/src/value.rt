@@ -5,7 +5,7 @@ ghost use Rattle.seq_calculus.specs.Schemas.{are_apart};
 ghost use Rattle.term_bank.specs.Banks.{tree_at as bank_tree};
 ghost use Rattle.term_shapes.specs.Shapes.{tree_of, named_parts, IsWhole};
 ghost use Rattle.search_definition.specs.Branches.{has, is_truth_clash};
-ghost use Rattle.search_definition.specs.Values.{opposite, both_true, one_true, implied, same_truth, is_plainly_true, is_plainly_false, has_mirror, has_not_mirror, whole};
+ghost use Rattle.search_definition.specs.Values.{opposite, both_true, one_true, same_truth, is_plainly_true, is_plainly_false, has_mirror, has_not_mirror, whole};
 ghost use Rattle.proof_writer.specs.Written.{opens, count, tree_at};
 ghost use Rattle.proof_trees.specs.Valued.{entries_of};
 ghost use Rattle.rule_proofs.specs.Values.{truth_of, whole_of, whole_against, is_numeral, is_text};

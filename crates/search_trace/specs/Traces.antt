@@ -1,9 +1,7 @@
 -- Turns by numbers, and the steps of the search's definition that they stand for.
-use Rattle.std.specs.Prelude.{ℕ, ◌<◌, List, [], ◌∷◌, length, map}
-use Rattle.std.proofs.Common.{All}
+use Rattle.std.specs.Prelude.{ℕ, ◌<◌, List, [], ◌∷◌, map}
 use Rattle.core_expr.specs.Tree.{Tree}
 use Rattle.term_bank.specs.Banks.{tree_at}
-use Rattle.search_definition.specs.Branches.{Closing}
 use Rattle.search_definition.specs.Rules.{Sides, Result}
 use Rattle.search_definition.specs.Rules.Sides.{Alone, Both}
 use Rattle.search_definition.specs.Search.{Move}

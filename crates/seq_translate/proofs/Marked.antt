@@ -1,9 +1,9 @@
 -- Marks by numbers are marks of formulas.
-use Rattle.std.specs.Prelude.{◌≡◌, ℕ, zero, suc, ◌<◌, Bool, true, false, ◌||◌, nat_eq, List, [], ◌∷◌, length}
+use Rattle.std.specs.Prelude.{◌≡◌, ℕ, ◌<◌, Bool, true, false, ◌||◌, nat_eq, List, [], ◌∷◌, length}
 use Rattle.std.specs.List.{fold}
 use Rattle.std.proofs.Common.{get_or, set, refl, ap, sym, ◌∙◌, subst, arith, eq-eqb}
-use Rattle.std.proofs.lemmas.Bool.{eqb-true}
-use Rattle.std.proofs.lemmas.List.{get_or-set_other, get_or-set_same, length-set}
+use Rattle.std.proofs.lemmas.Bool.{eqb-true, true≢false}
+use Rattle.std.proofs.lemmas.List.{get_or_default, get_or-set_other, get_or-set_same, length-set}
 use Rattle.core_expr.specs.Tree.{Tree, true_}
 use Rattle.core_expr.specs.Terms.{same}
 use Rattle.core_expr.specs.Nodes.{AreBelow, picked}
@@ -13,20 +13,12 @@ use Rattle.term_bank.specs.Banks.{IsDistinct}
 use Rattle.proof_trees.specs.Machine.{marked, unmarked, some}
 use Rattle.seq_translate.specs.Marks.{set_marks, clear_marks, any_mark, or_mark, AreMarks}
 
-true_not_false : true ≡ false → ⊥
-true_not_false e = cc
-
-get_or_default : (m : List Bool) (a : ℕ) → a < length m → get_or m a false ≡ get_or m a true
-get_or_default [] a l = absurd (omega arith)
-get_or_default (y ∷ m) zero l = refl
-get_or_default (y ∷ m) (suc a) l = get_or_default m a (omega arith)
-
 module _ (ts : List Tree) (distinct : IsDistinct ts) where
   differs : (a i : ℕ) → a < length ts → i < length ts → nat_eq i a ≡ false → same (get_or ts a true_) (get_or ts i true_) ≡ false
   differs a i l k e = go (same (get_or ts a true_) (get_or ts i true_)) refl
     where
       go : (x : Bool) → same (get_or ts a true_) (get_or ts i true_) ≡ x → same (get_or ts a true_) (get_or ts i true_) ≡ false
-      go true s = absurd (true_not_false (sym (eq-eqb i a (sym (distinct a i l k (same-true (get_or ts a true_) (get_or ts i true_) s)))) ∙ e))
+      go true s = absurd (true≢false (sym (eq-eqb i a (sym (distinct a i l k (same-true (get_or ts a true_) (get_or ts i true_) s)))) ∙ e))
       go false s = s
 
   -- one place marked is one formula marked
@@ -42,7 +34,7 @@ module _ (ts : List Tree) (distinct : IsDistinct ts) where
           ap (λ j. get_or (set m a true) j true) q ∙ get_or-set_same m a true true (omega (arith, h.0))
           ∙ sym (ap (λ j. value (same (get_or ts a true_) (get_or ts j true_)) (get_or ts j true_)) q ∙ ap (λ x. value x (get_or ts a true_)) (same-refl (get_or ts a true_)))
       go i k false e =
-          get_or-set_other m a i true true (λ q. true_not_false (sym (eq-eqb i a q) ∙ e)) ∙ h.1 i k ∙ sym (ap (λ x. value x (get_or ts i true_)) (differs a i l k e))
+          get_or-set_other m a i true true (λ q. true≢false (sym (eq-eqb i a q) ∙ e)) ∙ h.1 i k ∙ sym (ap (λ x. value x (get_or ts i true_)) (differs a i l k e))
 
   clear-one : (m : List Bool) (f : Tree → Bool) (a : ℕ) → a < length ts → AreMarks ts m f → AreMarks ts (set m a false) (unmarked f (get_or ts a true_ ∷ []))
   clear-one m f a l h = (length-set m a false ∙ h.0, λ i k. go i k (nat_eq i a) refl)
@@ -56,7 +48,7 @@ module _ (ts : List Tree) (distinct : IsDistinct ts) where
           ap (λ j. get_or (set m a false) j true) q ∙ get_or-set_same m a false true (omega (arith, h.0))
           ∙ sym (ap (λ j. value (same (get_or ts a true_) (get_or ts j true_)) (get_or ts j true_)) q ∙ ap (λ x. value x (get_or ts a true_)) (same-refl (get_or ts a true_)))
       go i k false e =
-          get_or-set_other m a i false true (λ q. true_not_false (sym (eq-eqb i a q) ∙ e)) ∙ h.1 i k ∙ sym (ap (λ x. value x (get_or ts i true_)) (differs a i l k e))
+          get_or-set_other m a i false true (λ q. true≢false (sym (eq-eqb i a q) ∙ e)) ∙ h.1 i k ∙ sym (ap (λ x. value x (get_or ts i true_)) (differs a i l k e))
 
   -- the same marks, told otherwise
   same-marks : (m : List Bool) (f g : Tree → Bool) → ((t : Tree) → f t ≡ g t) → AreMarks ts m f → AreMarks ts m g
@@ -93,7 +85,7 @@ module _ (ts : List Tree) (distinct : IsDistinct ts) where
       end true = refl
       end false = refl
   any-from m f (a ∷ is) x b h =
-      any-from m f is (or_mark m x a) b.1 h ∙ ap (λ y. (x || y) || some f (picked ts is)) (get_or_default m a (subst (λ n. a < n) (sym h.0) b.0) ∙ h.1 a b.0) ∙ assoc x (f (get_or ts a true_)) (some f (picked ts is))
+      any-from m f is (or_mark m x a) b.1 h ∙ ap (λ y. (x || y) || some f (picked ts is)) (get_or_default m a false true (subst (λ n. a < n) (sym h.0) b.0) ∙ h.1 a b.0) ∙ assoc x (f (get_or ts a true_)) (some f (picked ts is))
     where
       assoc : (x y z : Bool) → ((x || y) || z) ≡ (x || (y || z))
       assoc true y z = refl

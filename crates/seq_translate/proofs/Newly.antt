@@ -1,6 +1,6 @@
 -- What is new, by numbers and as formulas.
-use Rattle.std.specs.Prelude.{◌≡◌, ℕ, zero, suc, ◌-◌, ◌<◌, Bool, true, false, Option, Some, None, List, [], ◌∷◌, map, slice_get}
-use Rattle.std.proofs.Common.{get_or, refl, ap, sym, ◌∙◌}
+use Rattle.std.specs.Prelude.{◌≡◌, ℕ, zero, suc, ◌-◌, ◌<◌, Bool, true, false, List, [], ◌∷◌, map, slice_get}
+use Rattle.std.proofs.Common.{get_or, refl, ap}
 use Rattle.core_expr.specs.Tree.{Tree, true_}
 use Rattle.core_expr.specs.Nodes.{AreBelow, picked}
 use Rattle.search_definition.specs.Terms.{if_so}

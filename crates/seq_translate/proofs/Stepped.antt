@@ -1,5 +1,5 @@
 -- What each turn does to the state that code keeps.
-use Rattle.std.specs.Prelude.{◌≡◌, ℕ, ◌-◌, ◌+◌, ◌<◌, ◌≤◌, Bool, true, false, ◌||◌, nat_eq, Option, Some, List, [], ◌∷◌, ◌++◌, length, map}
+use Rattle.std.specs.Prelude.{◌≡◌, ℕ, ◌<◌, ◌≤◌, Bool, true, false, Option, Some, List, [], ◌∷◌, ◌++◌, length, map}
 use Rattle.std.proofs.Common.{get_or, refl, ap, sym, ◌∙◌, subst, arith}
 use Rattle.core_expr.specs.Tree.{Tree, true_}
 use Rattle.core_expr.specs.Nodes.{AreBelow, picked}
@@ -8,16 +8,16 @@ use Rattle.term_bank.specs.Banks.{tree_at as at}
 use Rattle.search_definition.specs.Terms.{if_so}
 use Rattle.search_definition.specs.declared.rule.Clash.{Clash}
 use Rattle.search_definition.specs.Rules.{Sides, Result}
-use Rattle.search_definition.specs.Rules.Sides.{Alone, Both}
+use Rattle.search_definition.specs.Rules.Sides.{Alone}
 use Rattle.search_trace.specs.declared.turn.Added.{Added}
 use Rattle.search_trace.specs.declared.turn.Used.{Used}
 use Rattle.search_trace.specs.declared.turn.Turn.{Turn}
 use Rattle.search_trace.specs.Traces.{AreUnder, UsedUnder, AddedUnder, TurnsUnder, added_tree, added_trees, result_of, moves_of}
 use Rattle.proof_writer.specs.Written.{Written, opens, count, tree_at}
-use Rattle.proof_writer.specs.Shapes.{first_of, second_of, rest_of}
+use Rattle.proof_writer.specs.Shapes.{first_of, rest_of}
 use Rattle.proof_trees.specs.By.{by}
 use Rattle.proof_trees.specs.Closings.{entries_by}
-use Rattle.proof_trees.specs.Machine.{State, Parts, picks, some, marked, unmarked, second_by, second_news, move_at, resumed, shut_by, one_by}
+use Rattle.proof_trees.specs.Machine.{State, picks, some, marked, unmarked, second_by, second_news, move_at, resumed, shut_by, one_by}
 use Rattle.proof_trees.specs.Machine.{Second as SecondSide}
 use Rattle.seq_translate.specs.Marks.{set_marks, clear_marks, any_mark, AreMarks}
 use Rattle.seq_translate.specs.News.{news_of, second_at}

@@ -1,21 +1,19 @@
 -- Second sides that are taken, and splits.
-use Rattle.std.specs.Prelude.{◌≡◌, ℕ, suc, ◌+◌, ◌<◌, ◌≤◌, Bool, true, false, ◌||◌, nat_eq, Option, Some, None, List, [], ◌∷◌, ◌++◌, length, map}
-use Rattle.std.proofs.Common.{get_or, refl, ap, sym, ◌∙◌, subst, arith}
-use Rattle.core_expr.specs.Tree.{Tree, true_}
+use Rattle.std.specs.Prelude.{◌≡◌, ℕ, ◌<◌, ◌≤◌, Bool, true, false, ◌||◌, nat_eq, Some, None, List, [], ◌∷◌, ◌++◌, length}
+use Rattle.std.proofs.Common.{refl, ap, sym, ◌∙◌, subst, arith}
+use Rattle.core_expr.specs.Tree.{Tree}
 use Rattle.core_expr.specs.Nodes.{AreBelow, picked}
 use Rattle.seq_calculus.specs.Calculus.{Proof}
 use Rattle.term_bank.specs.Banks.{IsDistinct}
-use Rattle.term_bank.specs.Banks.{tree_at as at}
 use Rattle.search_definition.specs.Terms.{if_so}
-use Rattle.search_definition.specs.Rules.{Sides, Result}
-use Rattle.search_definition.specs.Rules.Sides.{Alone, Both}
+use Rattle.search_definition.specs.Rules.{Result}
+use Rattle.search_definition.specs.Rules.Sides.{Both}
 use Rattle.search_trace.specs.declared.turn.Added.{Added}
 use Rattle.search_trace.specs.declared.turn.Used.{Used}
 use Rattle.search_trace.specs.Traces.{UsedUnder, AddedUnder, added_trees, result_of}
 use Rattle.proof_writer.specs.Written.{Written, opens, count, tree_at}
-use Rattle.proof_writer.specs.Shapes.{first_of, second_of, rest_of}
-use Rattle.proof_trees.specs.By.{by}
-use Rattle.proof_trees.specs.Machine.{State, picks, some, marked, unmarked, pair_of, both_by, is_of, is_needed, earlier}
+use Rattle.proof_writer.specs.Shapes.{second_of, rest_of}
+use Rattle.proof_trees.specs.Machine.{State, picks, some, marked, unmarked, pair_of, both_by, split_by, is_of, is_needed, earlier}
 use Rattle.proof_trees.specs.Machine.{Second as SecondSide}
 use Rattle.seq_translate.specs.Marks.{set_marks, clear_marks, any_mark, AreMarks}
 use Rattle.seq_translate.specs.News.{news_of}
@@ -38,6 +36,32 @@ pub rest_two : (ps : List Proof) → 2 ≤ length ps → rest_of ps ≡ second_o
 rest_two [] l = absurd (omega arith)
 rest_two (p ∷ []) l = absurd (omega arith)
 rest_two (p ∷ q ∷ ps) l = refl
+
+-- a split whose second side is done, and one that has none
+pub split_some :
+    (ts : List Tree) (ns : List Bool) (ss us : List Second) (v : Written) (s : State) (n : ℕ) (needed : Bool) (r : Result) (news : List Tree) → laid [] ss ≡ s.parts.seconds
+    → Some needed ≡ taken (laid [] ss) n → laid [] us ≡ left (laid [] ss) n → (needed ≡ is_needed s.parts.seconds → laid [] us ≡ earlier s.parts.seconds → IsState ts ns us v (both_by r news s))
+    → IsState ts ns us v (split_by (is_of s.parts.seconds n) r news s)
+split_some ts ns ss us v s n needed r news e taken_is left_is step =
+    go (is_of s.parts.seconds n) (taken_is ∙ ap (λ (l : List SecondSide). taken l n) e) (left_is ∙ ap (λ (l : List SecondSide). left l n) e)
+  where
+    go :
+        (x : Bool) → Some needed ≡ if_so x (Some (is_needed s.parts.seconds)) None → laid [] us ≡ if_so x (earlier s.parts.seconds) s.parts.seconds
+        → IsState ts ns us v (split_by x r news s)
+    go true f g = step (cc) g
+    go false f g = cc
+
+pub split_none :
+    (ts : List Tree) (ms : List Bool) (ss us : List Second) (w : Written) (s : State) (n : ℕ) (r : Result) (news : List Tree) → IsState ts ms ss w s → None ≡ taken (laid [] ss) n
+    → laid [] us ≡ left (laid [] ss) n → IsState ts ms us w (split_by (is_of s.parts.seconds n) r news s)
+split_none ts ms ss us w s n r news h taken_is left_is =
+    go (is_of s.parts.seconds n) (taken_is ∙ ap (λ (l : List SecondSide). taken l n) h.seconds) (left_is ∙ ap (λ (l : List SecondSide). left l n) h.seconds)
+  where
+    go :
+        (x : Bool) → None ≡ if_so x (Some (is_needed s.parts.seconds)) None → laid [] us ≡ if_so x (earlier s.parts.seconds) s.parts.seconds
+        → IsState ts ms us w (split_by x r news s)
+    go true f g = cc
+    go false f g = record { marks = h.marks; seconds = g; proofs = h.proofs; more = h.more; same = h.same }
 
 module _ (ts : List Tree) (distinct : IsDistinct ts) where
   -- a split with both sides done

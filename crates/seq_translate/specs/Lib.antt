@@ -2,3 +2,4 @@ pub mod Marks
 pub mod News
 pub mod States
 pub mod Sides
+pub mod Translated

@@ -1,5 +1,5 @@
 //! What writes the proofs of rules and of closings.
-ghost use Rattle.std.specs.Prelude.{◌≡◌, ◌<◌, ◌≤◌, [], ◌∷◌, ℕ, length, map, OnOk};
+ghost use Rattle.std.specs.Prelude.{◌≡◌, ◌<◌, ◌≤◌, [], ◌∷◌, ℕ, length, OnOk};
 ghost use Rattle.core_expr.specs.Nodes.{AreBelow, picked};
 ghost use Rattle.search_definition.specs.Rules.Sides.{Alone, Both};
 ghost use Rattle.search_trace.specs.Traces.{UsedUnder, AddedUnder, added_trees, result_of};

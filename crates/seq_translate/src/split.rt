@@ -1,5 +1,5 @@
 //! Splits, gone through backwards.
-ghost use Rattle.std.specs.Prelude.{◌≡◌, ◌<◌, ◌≤◌, ◌||◌, ℕ, [], ◌∷◌, length, List, OnOk};
+ghost use Rattle.std.specs.Prelude.{◌≡◌, ◌<◌, ◌≤◌, ℕ, [], ◌∷◌, length, List, OnOk, IfOk};
 ghost use Rattle.core_expr.specs.Tree.{Tree};
 ghost use Rattle.term_bank.specs.Banks.{IsDistinct};
 ghost use Rattle.search_definition.specs.Rules.Sides.{Both};
@@ -8,7 +8,7 @@ ghost use Rattle.proof_writer.specs.Written.{opens, count, tree_at};
 ghost use Rattle.proof_writer.specs.Shapes.{rest_of};
 ghost use Rattle.proof_trees.specs.Machine.{State, both_by, pair_of, picks, is_needed, earlier};
 ghost use Rattle.proof_trees.specs.Told.{Told};
-ghost use Rattle.seq_translate.specs.Sides.{remarked};
+ghost use Rattle.seq_translate.specs.Sides.{taken, left, remarked};
 ghost use Rattle.seq_translate.specs.States.{IsState, flags, laid};
 ghost use Rattle.seq_translate.specs.declared.state.Second.{Second};
 
@@ -16,10 +16,30 @@ use crate::fill::fill_two;
 use crate::marks::{any, clear_all, either, set_all};
 use crate::news::new_ones;
 use crate::rules::RuleProofs;
+use crate::state::Second;
 use core_expr::Memory;
 use proof_writer::Writer;
 use search_trace::{Added, Used};
 use std::alloc::Global;
+
+/// Takes the latest second side, where it is that of the split with this number: whether it is needed.
+pub fn take(seconds: &mut Vec<Second>, number: u64) -> Result<Option<bool>, Memory>
+    ensures taken { IfOk result (λ o. o ≡ taken (laid [] seconds.old.items) number) }
+    ensures left { OnOk result (laid [] seconds.new.items
+        ≡ left (laid [] seconds.old.items) number) }
+{
+    match seconds.pop() {
+        None => Ok(None),
+        Some(side) => {
+            if side.number == number {
+                Ok(Some(side.needed))
+            } else {
+                seconds.push(side)?;
+                Ok(None)
+            }
+        }
+    }
+}
 
 /// The marks before a split.
 fn remark(marks: &mut Vec<bool>, is_used: bool, news: &[u64], named: &[u64])
@@ -87,10 +107,12 @@ pub fn both<R: RuleProofs>(
     ensures more { count w.old ≤ count w.new }
     ensures same { (i : ℕ) → i < count w.old → tree_at w.new i ≡ tree_at w.old i }
     ensures ok { OnOk result ((ts : List Tree) (ss us : List Second) (s : State) → IsDistinct ts
-        → UsedUnder (length ts) used.now → AddedUnder (length ts) first.now → AddedUnder (length ts) second.now
+        → UsedUnder (length ts) used.now → AddedUnder (length ts) first.now
+        → AddedUnder (length ts) second.now
         → IsState ts marks.old.items ss w.old s → needed ≡ is_needed s.parts.seconds
         → laid [] us ≡ earlier s.parts.seconds → IsState ts marks.new.items us w.new
-        (both_by (result_of ts used.now (Both (added_trees ts first.now) (added_trees ts second.now)))
+        (both_by (result_of ts used.now
+        (Both (added_trees ts first.now) (added_trees ts second.now)))
         (picks (added_trees ts first.now) (flags first.now)) s)) }
 {
     let news = new_ones(alloc, first)?;

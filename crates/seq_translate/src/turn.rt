@@ -3,15 +3,15 @@ ghost use Rattle.std.specs.Prelude.{◌≡◌, ◌<◌, ◌≤◌, ℕ, length, 
 ghost use Rattle.core_expr.specs.Tree.{Tree};
 ghost use Rattle.term_bank.specs.Banks.{IsDistinct};
 ghost use Rattle.term_bank.specs.Banks.{tree_at as at};
-ghost use Rattle.search_definition.specs.Rules.Sides.{Alone, Both};
+ghost use Rattle.search_definition.specs.Rules.Sides.{Alone};
 ghost use Rattle.search_trace.specs.Traces.{AreUnder, UsedUnder, AddedUnder, TurnsUnder, added_trees, result_of, moves_of};
-ghost use Rattle.proof_writer.specs.Written.{Written, opens, count, tree_at};
+ghost use Rattle.proof_writer.specs.Written.{Written, count, tree_at};
 ghost use Rattle.proof_trees.specs.Machine.{State, resumed, shut_by, one_by, picks};
 ghost use Rattle.proof_trees.specs.Told.{Told};
 ghost use Rattle.seq_translate.specs.States.{IsState, flags};
 ghost use Rattle.seq_translate.specs.declared.state.Second.{Second};
 
-use crate::fill::{fill_one, fill_two};
+use crate::fill::fill_one;
 use crate::marks::{any, clear_all, set_all};
 use crate::news::{new_ones, second_news};
 use crate::rules::RuleProofs;
@@ -23,7 +23,7 @@ use search_trace::{Added, Turn, Used};
 use std::alloc::Global;
 
 /// The second side of a split is done with the turns behind, where one is resumed.
-fn resume(
+pub fn resume(
     alloc: Global,
     marks: &mut Vec<bool>,
     seconds: &mut Vec<Second>,
@@ -45,7 +45,7 @@ fn resume(
 
 /// A closing.
 #[tactic(auto, using(crate::proofs::Newly::under_below, crate::proofs::Stepped::shut_state))]
-fn shut<R: RuleProofs>(
+pub fn shut<R: RuleProofs>(
     rules: &R,
     w: &mut Writer,
     alloc: Global,
@@ -68,7 +68,7 @@ fn shut<R: RuleProofs>(
 
 /// A rule with one side.
 #[tactic(auto, using(crate::proofs::Stepped::one_state, crate::proofs::Stepped::idle_state))]
-fn one<R: RuleProofs>(
+pub fn one<R: RuleProofs>(
     rules: &R,
     w: &mut Writer,
     alloc: Global,

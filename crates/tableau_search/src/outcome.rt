@@ -1,5 +1,5 @@
 //! The search on an obligation.
-ghost use Rattle.std.specs.Prelude.{◌≡◌, ◌<◌, List, [], ◌∷◌, length, map, IfOk, OnOk};
+ghost use Rattle.std.specs.Prelude.{◌≡◌, ◌<◌, List, [], ◌∷◌, length, map, IfOk};
 ghost use Rattle.core_expr.specs.Tree.{Tree};
 ghost use Rattle.seq_calculus.specs.Calculus.{AllClosed};
 ghost use Rattle.term_bank.specs.Banks.{IsDistinct, Extends};

@@ -1,5 +1,5 @@
 //! What a rule does to the branch, and the turn that is noted.
-ghost use Rattle.std.specs.Prelude.{◌≡◌, ◌<◌, ◌∷◌, [], ◌++◌, None, length, IfOk, OnOk};
+ghost use Rattle.std.specs.Prelude.{◌≡◌, ◌<◌, ◌∷◌, [], None, length, IfOk, OnOk};
 ghost use Rattle.search_definition.specs.Needs.{union};
 ghost use Rattle.branch_state.specs.Parts.{Holds, AreClassed, shown};
 ghost use Rattle.branch_state.specs.Shown.{Falls};

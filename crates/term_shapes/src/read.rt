@@ -3,12 +3,12 @@ ghost use Rattle.std.specs.Prelude.{◌≡◌, ◌<◌, length};
 ghost use Rattle.std.proofs.Common.{get_or};
 ghost use Rattle.core_expr.specs.Heads.{subtrees, kind_number};
 ghost use Rattle.core_expr.specs.Places.{kind_of};
-ghost use Rattle.core_expr.specs.Nodes.{AreBelow, node_kind, picked};
+ghost use Rattle.core_expr.specs.Nodes.{AreBelow, picked};
 ghost use Rattle.term_bank.specs.Banks.{tree_at};
 ghost use Rattle.term_shapes.specs.Shapes.{plain_shape, binder_shape, shape_over, named_parts, HasShape};
 
 use crate::shape::Shape;
-use core_expr::{Binder, Head, RowKind, Sym, kind_for};
+use core_expr::{Binder, Head, RowKind, kind_for};
 use term_bank::{Bank, BankNode};
 
 /// The number at a place; 0 past the end.

@@ -1,5 +1,5 @@
 //! Putting terms in for others, all at once.
-ghost use Rattle.std.specs.Prelude.{◌≡◌, ◌<◌, [], ℕ, length, map, IfOk, OnOk};
+ghost use Rattle.std.specs.Prelude.{◌≡◌, ◌<◌, [], length, map, IfOk, OnOk};
 ghost use Rattle.term_bank.specs.Banks.{IsDistinct, Extends, HasTree, tree_at};
 ghost use Rattle.term_walks.specs.Moved.{moved};
 ghost use Rattle.term_walks.specs.Walks.{given, image_at, AreWithin, IsRemade, KeepsImage, IsWalk, AreMoved};

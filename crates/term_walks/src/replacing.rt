@@ -1,5 +1,5 @@
 //! Replacing a term by another.
-ghost use Rattle.std.specs.Prelude.{◌≡◌, ◌<◌, length, IfOk};
+ghost use Rattle.std.specs.Prelude.{◌<◌, length, IfOk};
 ghost use Rattle.core_expr.specs.Put.{IsScoped};
 ghost use Rattle.term_bank.specs.Banks.{IsDistinct, Extends, HasTree, tree_at};
 ghost use Rattle.search_definition.specs.Terms.{replace};

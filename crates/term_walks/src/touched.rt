@@ -1,5 +1,5 @@
 //! The nodes below a node, each once.
-ghost use Rattle.std.specs.Prelude.{◌≡◌, ◌↔◌, ◌⊎◌, ◌<◌, [], ℕ, length, OnOk, IfOk};
+ghost use Rattle.std.specs.Prelude.{◌↔◌, ◌⊎◌, ◌<◌, [], ℕ, length, OnOk, IfOk};
 ghost use Rattle.term_bank.specs.Images.{In};
 ghost use Rattle.term_walks.specs.Walks.{IsAdded, IsTurn, IsWalk};
 

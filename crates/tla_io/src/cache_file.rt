@@ -1,6 +1,6 @@
 //! Where proofs are kept from run to run.
 
-ghost use Rattle.std.specs.Prelude.{◌≡◌, ◌≢◌, Option, List, ℕ, is_some, OnOk};
+ghost use Rattle.std.specs.Prelude.{◌≡◌, Option, List, ℕ, OnOk};
 ghost use Rattle.tla_io.specs.Causes.{HasCause, HasCacheCause};
 ghost use Rattle.tla_io.specs.Told.{ReadsFront, with_content, SameElsewhere, SameNames};
 

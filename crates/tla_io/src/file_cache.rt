@@ -1,6 +1,6 @@
 //! Cache files of a folder.
 
-ghost use Rattle.std.specs.Prelude.{◌≡◌, ◌≢◌, ◌≤◌, ◌<◌, ◌+◌, ◌++◌, ◌↔◌, List, ℕ, is_some, OnOk, IfOk, IfSome, IsErr, IsNone, IsTrue, codes, length, take};
+ghost use Rattle.std.specs.Prelude.{◌≡◌, ◌≤◌, ◌<◌, ◌+◌, ◌++◌, ◌↔◌, OnOk, IfOk, IfSome, IsErr, IsNone, IsTrue, codes, length, take};
 ghost use Rattle.tla_io.specs.Causes.{HasCause, HasCacheCause};
 ghost use Rattle.tla_io.specs.Files.{IsReplaced, ReadsFile};
 ghost use Rattle.tla_io.specs.Told.{untold, with_content, SameElsewhere, SameNames};

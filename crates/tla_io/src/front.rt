@@ -1,6 +1,6 @@
 //! The front of a text, in memory or in a file.
 
-ghost use Rattle.std.specs.Prelude.{◌≡◌, ◌≤◌, IfOk, take, length};
+ghost use Rattle.std.specs.Prelude.{◌≡◌, IfOk, take};
 ghost use Rattle.std.specs.Str.{bytes_eq};
 ghost use Rattle.tla_io.specs.Files.{IsFront, IsFrontAt, IsWithin};
 

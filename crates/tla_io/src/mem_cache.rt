@@ -1,6 +1,6 @@
 //! A cache file in memory.
 
-ghost use Rattle.std.specs.Prelude.{◌≡◌, ◌≢◌, ◌↔◌, List, ℕ, Some, None, take, is_some, IfOk, OnOk, IsErr, IsErrOf};
+ghost use Rattle.std.specs.Prelude.{◌≡◌, ◌↔◌, Some, None, take, IfOk, OnOk, IsErr, IsErrOf};
 ghost use Rattle.tla_io.specs.Causes.{HasCause, HasCacheCause};
 ghost use Rattle.tla_io.specs.InMemory.{schedule, FailsNext, content_of, content_or_empty, after_read, after_replace};
 ghost use Rattle.tla_io.specs.Told.{ReadsFront, with_content, SameElsewhere, SameNames};

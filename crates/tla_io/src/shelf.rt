@@ -2,7 +2,7 @@
 
 ghost use Rattle.std.specs.Prelude.{◌≡◌, Option, List, ℕ};
 ghost use Rattle.tla_io.specs.Causes.{HasShelfCause};
-ghost use Rattle.tla_io.specs.Told.{Folder, Fetches};
+ghost use Rattle.tla_io.specs.Told.{Fetches};
 
 use crate::faults::ShelfFault;
 use std::alloc::Global;

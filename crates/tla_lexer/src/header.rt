@@ -1,6 +1,6 @@
 //! The header of a module.
 
-ghost use Rattle.std.specs.Prelude.{◌≡◌, ◌+◌, ◌<◌, ◌≤◌, ◌^◌, length, take, drop, Some, None, IfOk, IfSome, true, false};
+ghost use Rattle.std.specs.Prelude.{◌≡◌, ◌+◌, ◌<◌, ◌≤◌, ◌^◌, length, Some, None, IfOk, IfSome, true, false};
 ghost use Rattle.tla_lexer.specs.Headers as spec;
 
 use crate::run::{behind, same_len, space_len, word_len};

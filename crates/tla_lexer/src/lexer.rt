@@ -1,6 +1,6 @@
 //! All tokens of a module.
 
-ghost use Rattle.std.specs.Prelude.{◌≡◌, ◌+◌, ◌*◌, ◌<◌, ◌≤◌, ◌^◌, length, drop, IfOk};
+ghost use Rattle.std.specs.Prelude.{◌≡◌, ◌+◌, ◌*◌, ◌<◌, ◌≤◌, length, drop, IfOk};
 ghost use Rattle.tla_ast.specs.Answers.{Answers};
 ghost use Rattle.tla_ast.specs.Listing.{IsTokenList};
 ghost use Rattle.tla_ast.specs.declared.limit.TheConstants.{MOST_BYTES};

@@ -12,7 +12,7 @@ use Rattle.symbol_table.specs.declared.entry.Entry.{Entry}
 use Rattle.symbol_table.specs.declared.entry.EntrySort.{EntrySort}
 use Rattle.symbol_table.specs.declared.entry.EntrySort.TheVariants as sorts
 use Rattle.symbol_table.specs.Scoped.{entry_of}
-use Rattle.plain_syntax.specs.Plain.{Text, Term, Terms, Groups, Defs, Item, Statement, Fact, Move as move, Proof, Steps}
+use Rattle.plain_syntax.specs.Plain.{Term, Terms, Groups, Defs, Item, Statement, Fact, Move as move, Proof, Steps}
 use Rattle.plain_syntax.specs.Plain.Term.{term}
 use Rattle.plain_syntax.specs.Plain.Terms.{none, part}
 use Rattle.plain_syntax.specs.Plain.Shape.{name, infixed}

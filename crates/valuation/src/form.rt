@@ -1,8 +1,6 @@
 //! Which canonical forms are propositional.
 
-ghost use Rattle.std.specs.Prelude.{◌≡◌, ◌&&◌, map};
-ghost use Rattle.std.specs.List.{list_all};
-ghost use Rattle.core_expr.specs.Flat.{rows_of};
+ghost use Rattle.std.specs.Prelude.{◌≡◌, ◌&&◌};
 ghost use Rattle.valuation.specs.Truth.{are_propositional, is_propositional};
 ghost use Rattle.valuation.specs.Forms as spec;
 

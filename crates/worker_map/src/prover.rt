@@ -1,5 +1,5 @@
 //! What answers jobs by number, and what is told before it.
-ghost use Rattle.std.specs.Prelude.{◌≡◌, ◌<◌, ◌≤◌, length};
+ghost use Rattle.std.specs.Prelude.{◌<◌, length};
 ghost use Rattle.worker_map.specs.Answers.{IsVerdict};
 
 use core_expr::Canon;

@@ -1,4 +1,4 @@
-use Rattle.std.proofs.Common.{◌+◌, ◌≡◌, length, take, sym, ap, ◌∙◌, arith, rules}
+use Rattle.std.proofs.Common.{◌+◌, ◌≡◌, length, take, sym, ◌∙◌, arith, rules}
 use Rattle.known_facts.specs.Shown.{entries_of}
 use Rattle.known_facts.proofs.Growing.{restore-begins, short-take, length-change, restore-next, restore-ends}
 use Rattle.known_facts.proofs.known.restore_states.Goals as goal

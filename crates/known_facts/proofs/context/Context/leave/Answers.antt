@@ -1,5 +1,3 @@
-use Rattle.std.proofs.Common.{◌∙◌}
-use Rattle.known_facts.specs.Shown.{context_of}
 use Rattle.known_facts.proofs.Growing.{taken_are}
 use Rattle.known_facts.proofs.context.Context.leave.Goals as goal
 

@@ -1,4 +1,4 @@
-use Rattle.std.proofs.Common.{◌≡◌, sym, ap, ◌∙◌}
+use Rattle.std.proofs.Common.{◌≡◌, ap, ◌∙◌}
 use Rattle.proof_outline.specs.Outline.{found}
 use Rattle.proof_outline.specs.Kept.{Key, name_of, in_scope}
 use Rattle.proof_outline.proofs.scope.Scope.find.Goals as goal

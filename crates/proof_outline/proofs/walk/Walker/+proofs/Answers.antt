@@ -1,5 +1,5 @@
 use Rattle.std.proofs.Common.{map, sym, ap, subst, ◌∙◌}
-use Rattle.plain_syntax.specs.Syntax.{fact_of, proof_of}
+use Rattle.plain_syntax.specs.Syntax.{fact_of}
 use Rattle.proof_outline.specs.Outline as spec
 use Rattle.proof_outline.specs.Visits.{IsStop, Does, each_step}
 use Rattle.proof_outline.proofs.Proofs.{by-walk, other-walk, err-steps, ok-steps}

@@ -1,0 +1,4 @@
+pub mod Reasoning
+mod Planning
+mod Keeping
+mod NewsLaws

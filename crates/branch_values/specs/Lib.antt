@@ -1,0 +1,5 @@
+pub mod Judging
+pub mod Reasons
+pub mod Plans
+pub mod Memos
+pub mod News

@@ -1,0 +1,4 @@
+pub mod PlaceLaws
+pub mod ClosingLaws
+pub mod ReplaceLaws
+pub mod RewriteLaws

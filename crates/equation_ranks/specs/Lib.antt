@@ -1,0 +1,3 @@
+pub mod Partners
+pub mod Replacing
+pub mod Rewriting

@@ -1,0 +1,4 @@
+pub mod Seeking
+pub mod Partners
+pub mod Atoms
+pub mod Lives

@@ -1,0 +1,3 @@
+mod Finding
+mod LiteralLaws
+mod SplitLaws

@@ -1,4 +1,0 @@
-pub mod Shown
-pub mod New
-pub mod Old
-pub mod Agrees

@@ -1,4 +1,0 @@
-pub mod Forms
-pub mod Answer
-pub mod Nodes
-pub mod Laws
