@@ -4,4 +4,5 @@ mod ValueLaws
 mod StartLaws
 mod Meant
 mod SearchLaws
+mod ProofLaws
 mod NodeLaws

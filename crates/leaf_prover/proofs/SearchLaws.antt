@@ -1,6 +1,6 @@
 -- What a search on a form starts with, and the answer that its end gives.
 use Rattle.std.specs.Prelude.{◌≡◌, ℕ, Bool, true, false, List, [], ◌∷◌, map}
-use Rattle.std.proofs.Common.{refl, ap, sym, ◌∙◌, subst}
+use Rattle.std.proofs.Common.{length, refl, ap, sym, ◌∙◌, subst}
 use Rattle.std.proofs.lemmas.Bool.{and_parts}
 use Rattle.core_expr.specs.declared.canon.Canon.{Canon}
 use Rattle.core_expr.specs.Tree.{Tree}
@@ -8,8 +8,9 @@ use Rattle.core_expr.specs.Nodes.{picked}
 use Rattle.seq_calculus.specs.Calculus.{IsClosed, AllClosed}
 use Rattle.term_bank.specs.Banks.{tree_at}
 use Rattle.term_shapes.specs.Forms.{ArePlaced}
+use Rattle.term_shapes.proofs.Extending.{has-extend}
 use Rattle.search_definition.specs.Terms.{when}
-use Rattle.search_definition.specs.Search.{End, denied, search}
+use Rattle.search_definition.specs.Search.{End, denied, search, steps}
 use Rattle.search_definition.specs.Search.End.{Closed, Saturated as Open, Spent as Cut}
 use Rattle.branch_state.specs.declared.parts.New.{New}
 use Rattle.tableau_search.specs.Entries.{new_trees}
@@ -22,6 +23,12 @@ use Rattle.branch_book.specs.declared.item.Item.{Item}
 use Rattle.search_loop.specs.declared.run.Ending.{Ending}
 use Rattle.tableau_search.specs.Boards.{IsEnd}
 use Rattle.leaf_prover.specs.declared.answer.Answer.{Answer}
+use Rattle.term_bank.specs.Banks.{Extends, HasTree}
+use Rattle.search_trace.specs.Traces.{moves_of, TurnsUnder}
+use Rattle.search_loop.specs.Turns.{StepsAre}
+use Rattle.tableau_search.specs.Entries.{ItemsUnder}
+use Rattle.leaf_prover.specs.declared.search.Searched.{Searched}
+use Rattle.leaf_prover.specs.Searches.{IsSearched}
 use Rattle.leaf_prover.proofs.Meant.{closed, all_closed}
 use Rattle.leaf_prover.proofs.ValueLaws.{valuation_length}
 
@@ -59,3 +66,18 @@ pub answer_is : (c : Canon) (n m : ℕ) (ts : List Tree) (branch items : List It
 unfolding end_of
 answer_is c n m ts branch items ending a limit same ends is =
     is (search c.facts c.goal n) (subst (λ xs. IsEnd ts xs ending (search c.facts c.goal n)) (sym same) (subst (λ k. IsEnd ts items ending (search c.facts c.goal k)) limit ends))
+
+-- what a search over the bank came to, in the bank as it is at the end
+pub searched_is : (c : Canon) (n m : ℕ) (ts us : List Tree) (s : Searched) → m ≡ n → s.bank ≡ us → s.symbols ≡ symbol_count c → Extends ts us → HasTree ts s.goal c.goal → ItemsUnder (length us) s.branch.items → TurnsUnder (length us) s.turns.items
+    → IsEnd us s.branch.items s.ending (search c.facts c.goal m) → StepsAre s.ending (steps c.facts c.goal m) [] (moves_of us s.turns.items) → IsSearched n c s
+searched_is c n m ts us s limit bank symbols x goal branch turns ends moves =
+    let back = sym bank in
+    record {
+      symbols = symbols;
+      goal = subst (λ vs. HasTree vs s.goal c.goal) back (has-extend ts us s.goal c.goal x goal);
+      branch = subst (λ vs. ItemsUnder (length vs) s.branch.items) back branch;
+      turns = subst (λ vs. TurnsUnder (length vs) s.turns.items) back turns;
+      ends = subst (λ k. IsEnd s.bank s.branch.items s.ending (search c.facts c.goal k)) limit (subst (λ vs. IsEnd vs s.branch.items s.ending (search c.facts c.goal m)) back ends);
+      steps = subst (λ k. StepsAre s.ending (steps c.facts c.goal k) [] (moves_of s.bank s.turns.items)) limit
+          (subst (λ vs. StepsAre s.ending (steps c.facts c.goal m) [] (moves_of vs s.turns.items)) back moves);
+    }

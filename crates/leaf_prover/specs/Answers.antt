@@ -1,6 +1,10 @@
 -- The answer of the written search to a canonical form.
-use Rattle.std.specs.Prelude.{◌≡◌, ℕ, Bool, true, false, List, Option, Some, None, length}
+use Rattle.std.specs.Prelude.{[], ◌∷◌, ◌≡◌, ℕ, Bool, true, false, List, Option, Some, None, length}
 use Rattle.core_expr.specs.declared.canon.Canon.{Canon}
+use Rattle.seq_calculus.specs.Calculus.{Correct}
+use Rattle.seq_calculus.specs.Steps.{proof_of}
+use Rattle.proof_cache.specs.declared.verdict.Verdict.{Verdict}
+use Rattle.proof_cache.specs.declared.verdict.Verdict.TheVariants as verdict
 use Rattle.search_definition.specs.Terms.{when}
 use Rattle.search_definition.specs.Branches.{Branch}
 use Rattle.search_definition.specs.Search.{End, search}
@@ -37,6 +41,13 @@ abbrev pub is_proved : Answer → Bool
 is_proved (Proved turns) = true
 is_proved (Saturated values turns) = false
 is_proved (Spent turns) = false
+
+-- the verdict is the answer to the form, and a proof comes with it that is correct for the form
+abbrev pub IsRight : ℕ → Canon → Verdict → Type 0
+IsRight n c (verdict.Proved p turns cached) = (answer n c ≡ Proved turns) × (cached ≡ false) × Correct (proof_of p) c.facts (c.goal ∷ [])
+IsRight n c (verdict.Saturated values turns) = answer n c ≡ Saturated values turns
+IsRight n c (verdict.Spent turns) = answer n c ≡ Spent turns
+IsRight n c verdict.Memory = ⊥
 
 -- values of so many symbols, where there are values
 abbrev pub HasValues : ℕ → Option (List Bool) → Type 0

@@ -2,4 +2,5 @@ pub mod Fresh
 pub mod Marks
 pub mod Forms
 pub mod Answers
+pub mod Searches
 pub mod Laws

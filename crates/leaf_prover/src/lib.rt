@@ -5,12 +5,14 @@
 //!   that the search over shared nodes can take.
 //! - [`answer_to`] answers what the written search answers to such a form with a limit of turns: proved, saturated, with the values of its
 //!   symbols where the form is propositional, or spent. Want of memory is the only other answer.
+//! - [`prove`] gives the same as a verdict, in which a proved form has a sequent proof that is correct for it.
 //! - What answers mean, of the definition in `specs/Answers.antt`: the goal of a proved form has a derivation from its facts
 //!   ([`proved_derives`]), values that are found falsify their form ([`values_are_right`]), and with enough turns a propositional form is
 //!   proved exactly where nothing falsifies it ([`enough_turns_decide`]).
 #![tactic(auto)]
 
 mod answer;
+mod engine;
 mod form;
 mod laws;
 mod search;
@@ -19,6 +21,7 @@ mod unused;
 mod values;
 
 pub use answer::Answer;
+pub use engine::prove;
 pub use form::is_form;
 pub use laws::{enough_turns_decide, proved_derives, values_are_right};
 pub use search::answer_to;

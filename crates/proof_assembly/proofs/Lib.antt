@@ -5,6 +5,6 @@ pub mod Items
 mod Going
 mod Declared
 mod Shapes
-mod Units
-mod Modules
+pub mod Units
+pub mod Modules
 mod Headline

@@ -7,4 +7,5 @@ pub mod Wants
 pub mod Loaded
 pub mod Readings
 pub mod Meant
+mod Answered
 pub mod Lines

@@ -45,7 +45,8 @@ use Rattle.theorem_leaves.specs.declared.chapter.Chapter.{Chapter}
 use Rattle.theorem_leaves.specs.Chapters.{chapters_of, IsReportOf, AreReports, reports_in, ChaptersReport}
 use Rattle.proof_manager.specs.Judging.{Answer, and_then, each, shown_answer, shown_kind, judged_leaf, judged_theorem, judged_module, judged, as_verdict, verdict_on, form}
 use Rattle.proof_manager.specs.Reading.{Read, modules_fault, resolved, checked, read_with, read_of, as_outcome, reading}
-use Rattle.proof_manager.specs.Causes.{IsRead, OfKind, OfLeaves, OfTheorems, OfChapters, IsJustForm, IsDecidedForm, ReadIsJust, ReadIsDecided}
+use Rattle.leaf_forms.specs.Leaves.{OfKind, OfLeaves, OfTheorems, OfChapters}
+use Rattle.proof_manager.specs.Causes.{IsRead, IsJustForm, IsDecidedForm, ReadIsJust, ReadIsDecided}
 use Rattle.proof_manager.proofs.Loaded.{loads-apart}
 use Rattle.proof_manager.proofs.Wants.{each-derives, all-told}
 
@@ -179,9 +180,9 @@ of-chapters P f (c ∷ cs) h = (of-theorems P f c.theorems h.0, of-chapters P f 
 
 -- ---- what is read
 
-resolved-is : (o : Option (ℕ × ScopeFault)) (ms : List Module) (t : Table) → resolved o ms ≡ Ok t → resolution ms ≡ Ok t
-resolved-is None ms t e = e
-resolved-is (Some f) ms t e = let a = from-value (resolution _) (λ t. Err f.1) t e in absurd (never a.2)
+pub resolved_is : (o : Option (ℕ × ScopeFault)) (ms : List Module) (t : Table) → resolved o ms ≡ Ok t → resolution ms ≡ Ok t
+resolved_is None ms t e = e
+resolved_is (Some f) ms t e = let a = from-value (resolution _) (λ t. Err f.1) t e in absurd (never a.2)
   where
     never : ◌≡◌ {A = Answer Table} (Err f.1) (Ok t) → ⊥
     never e = cc
@@ -201,7 +202,7 @@ read-right folder root r e =
     let j = from-value (judged t.0.entries (chapters_of ms t.0)) _ r t.2 in
     subst IsRight (ok-is j.2) (record {
       loaded = (folder, root, l.0, l.1, refl);
-      resolved = resolved-is (modules_fault ms) ms t.0 t.1;
+      resolved = resolved_is (modules_fault ms) ms t.0 t.1;
       judged = j.1;
     })
 

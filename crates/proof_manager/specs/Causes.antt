@@ -1,5 +1,5 @@
 -- Each status of a run has its cause.
-use Rattle.std.specs.Prelude.{◌≡◌, ℕ, ◌≤◌, ◌<◌, Bool, true, false, List, [], ◌∷◌, Option, None, Some, IsSome, Result, Ok, Err, length, take}
+use Rattle.std.specs.Prelude.{◌≡◌, ℕ, ◌≤◌, ◌<◌, Bool, true, false, List, [], ◌∷◌, Option, None, Some, IsSome, Result, Ok, Err, length, map, take}
 use Rattle.std.specs.List.{list_all}
 use Rattle.tla_io.specs.Causes.{Rose}
 use Rattle.tla_io.specs.Told.{Bytes, Folder, with_more}
@@ -15,14 +15,8 @@ use Rattle.propositional_laws.specs.Valuations.{IsValid}
 use Rattle.leaf_prover.specs.declared.answer.Answer.TheVariants.{Saturated}
 use Rattle.leaf_prover.specs.Answers.{turn_limit, answer, is_proved}
 use Rattle.leaf_prover.specs.Laws as laws
-use Rattle.proof_contexts.specs.declared.leaf.Leaf.{Leaf}
-use Rattle.proof_contexts.specs.declared.leaf.LeafKind.{LeafKind}
-use Rattle.proof_contexts.specs.declared.leaf.LeafKind.TheVariants as kind
-use Rattle.proof_contexts.specs.Canonical.{obligation_canon}
 use Rattle.proof_contexts.specs.Statuses as statuses
 use Rattle.name_places.specs.Places.{NamesDiffer}
-use Rattle.theorem_leaves.specs.declared.chapter.TheoremLeaves.{TheoremLeaves}
-use Rattle.theorem_leaves.specs.declared.chapter.Chapter.{Chapter}
 use Rattle.theorem_leaves.specs.Chapters.{chapters_of}
 use Rattle.usable_facts.specs.Definitions.{definitions_of}
 use Rattle.usable_facts.specs.Theorems.{all_theorems}
@@ -30,9 +24,14 @@ use Rattle.proof_assembly.specs.Laws.{EachDerives}
 use Rattle.status_report.specs.declared.table.ModuleIn.{ModuleIn}
 use Rattle.status_report.specs.declared.table.Style.TheVariants.{Plain}
 use Rattle.status_report.specs.Report.{report_text, statuses_of, has_memory_leaf}
+use Rattle.leaf_forms.specs.Leaves.{OfChapters}
+use Rattle.tla_ast.specs.declared.unit.Module.{Module as source_module}
+use Rattle.plain_syntax.specs.Syntax.{module_of}
+use Rattle.symbol_table.specs.Scoped.{Table}
+use Rattle.module_shelf.specs.Loading.{loading}
 use Rattle.proof_manager.specs.Judging.{Answer}
 use Rattle.proof_manager.specs.Told.{ModulesTold}
-use Rattle.proof_manager.specs.Reading.{Read, read_of, reading}
+use Rattle.proof_manager.specs.Reading.{Read, read_of, reading, checked}
 use Rattle.proof_manager.specs.declared.status.Status.{Status}
 use Rattle.proof_manager.specs.declared.status.Status.TheVariants as status
 
@@ -121,24 +120,6 @@ WhereReported P s told root = WhereTold root (λ name. WhereTold told (λ folder
 
 -- ---- what reports mean
 
--- a fact on the canonical form of a leaf, where the leaf is to be proved
-abbrev pub OfKind : (Canon → Type 0) → LeafKind → Type 0
-OfKind P (kind.Search o) = P (obligation_canon o)
-OfKind P _ = Unit {0}
-
-abbrev pub OfLeaves : (Canon → Type 0) → List Leaf → Type 0
-OfLeaves P [] = Unit {0}
-OfLeaves P (l ∷ ls) = OfKind P l.kind × OfLeaves P ls
-
-abbrev pub OfTheorems : (Canon → Type 0) → List TheoremLeaves → Type 0
-OfTheorems P [] = Unit {0}
-OfTheorems P (t ∷ ts) = OfLeaves P t.leaves × OfTheorems P ts
-
--- the same of all leaves of modules
-abbrev pub OfChapters : (Canon → Type 0) → List Chapter → Type 0
-OfChapters P [] = Unit {0}
-OfChapters P (c ∷ cs) = OfTheorems P c.theorems × OfChapters P cs
-
 -- The goal of a leaf that is proved has a derivation from its facts, and no valuation falsifies a propositional leaf that is proved. The
 -- values that are printed of a leaf falsify its canonical form: they make its facts true and its goal false.
 pub record IsJustForm (c : Canon) : Type 0 where
@@ -202,3 +183,8 @@ Writes status.MemoryLeaf ms old new = (has_memory_leaf ms ≡ true) × TakesRepo
 Writes status.WriteFault ms old new = TakesPart ms old new
 Writes status.Memory ms old new = Unit {0}
 Writes _ ms old new = ⊥
+
+-- Where the modules are loaded and what their names mean is told without a fault, all leaves are answered: no leaf is refused.
+abbrev pub ReadIsAnswered : Type 0
+ReadIsAnswered =
+    (folder : Folder) (root : Bytes) (ms : List source_module) (t : Table) → loading None folder root ≡ Ok ms → checked (map module_of ms) ≡ Ok t → (r : Read) × IsRead folder root r

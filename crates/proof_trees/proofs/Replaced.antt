@@ -17,7 +17,8 @@ use Rattle.search_definition.specs.Plain.{Rewrite}
 use Rattle.search_definition.proofs.Standing.{closed-of}
 use Rattle.proof_writer.specs.Shapes.{leaf, over, mirror}
 use Rattle.proof_trees.specs.Says.{Says}
-use Rattle.proof_trees.specs.Abstracted.{abstracted, abstracteds, put_for, replace_by, rewrite_by}
+use Rattle.term_patterns.specs.Abstracted.{abstracted, abstracteds}
+use Rattle.proof_trees.specs.Abstracted.{put_for, replace_by, rewrite_by}
 use Rattle.proof_trees.proofs.Had.{HasAll-cons, HasAll-itself, HasAll-one, has_of, loosen}
 use Rattle.proof_trees.proofs.Said.{narrower, says_refl, says_cut, says_repl, says_schema}
 

@@ -2,6 +2,7 @@
 ghost use Rattle.std.specs.Prelude.{◌≡◌, ◌<◌, ◌≤◌, [], ◌∷◌, ℕ, length, OnOk, IfOk};
 ghost use Rattle.core_expr.specs.Nodes.{AreBelow, picked};
 ghost use Rattle.core_expr.specs.Put.{inst, IsScoped};
+ghost use Rattle.term_patterns.specs.Abstracted.{abstracted};
 ghost use Rattle.term_shapes.specs.Shapes.{tree_of, named_parts, IsWhole};
 ghost use Rattle.seq_calculus.specs.Calculus.Rule.{Schema};
 ghost use Rattle.seq_calculus.specs.Steps.{proof_of, table_of};
@@ -18,6 +19,7 @@ use sqlite_items::Items;
 use std::alloc::Global;
 use std::marker::Model;
 use term_bank::Bank;
+use term_patterns::pattern;
 use term_shapes::{Shape, make};
 
 /// A proof that is being written. Contracts see its expressions by number and the proofs of the open steps, the latest
@@ -149,6 +151,20 @@ impl Writer {
             (k < count self.new) × (tree_at self.new k ≡ tree_of self.old.trees shape)) }
     {
         make(&mut self.fields.bank, alloc, shape)
+    }
+
+    /// The number of the formula at `f` with one loose variable for each occurrence of the term at `s`. The nodes that it needs come to
+    /// the bank.
+    pub fn pattern(&mut self, alloc: Global, s: u64, f: u64) -> Result<u64, Memory>
+        requires term { s < count self.old }
+        requires formula { f < count self.old }
+        ensures more { count self.old ≤ count self.new }
+        ensures same { (i : ℕ) → i < count self.old → tree_at self.new i ≡ tree_at self.old i }
+        ensures opens { opens self.new ≡ opens self.old }
+        ensures ok { IfOk result (λ k. (k < count self.new)
+            × (tree_at self.new k ≡ abstracted (tree_at self.old s) 0 (tree_at self.old f))) }
+    {
+        pattern(&mut self.fields.bank, alloc, s, f)
     }
 
     /// The number of the tree at `body` with the tree at `t` for its one loose variable.

@@ -4,15 +4,17 @@ use Rattle.std.proofs.Common.{refl, ap, sym, ◌∙◌, subst, arith}
 use Rattle.core_expr.specs.Terms.{nodes}
 use Rattle.core_expr.specs.Nodes.{AreBelow, picked}
 use Rattle.search_definition.specs.Branches.{Branch}
+use Rattle.search_definition.specs.Values.{Truth, truth}
 use Rattle.term_bank.specs.Banks.{tree_at}
 use Rattle.proof_writer.specs.Written.{Written, count, opens}
 use Rattle.proof_trees.specs.Valued.{entries_of, shows}
 use Rattle.rule_proofs.specs.declared.value.Value.{Value}
 use Rattle.rule_proofs.specs.declared.tasks.Task.{Task}
 use Rattle.rule_proofs.specs.declared.tasks.Task.TheVariants.{Visit, Join}
-use Rattle.rule_proofs.specs.Shown.{Shown, visited, joined, after, done, shown_of, AreUnder, weights, IsTurn, IsShowing}
+use Rattle.rule_proofs.specs.Values.{truth_of}
+use Rattle.rule_proofs.specs.Shown.{Shown, visited, joined, after, done, laid, shown_of, AreUnder, weights, IsTurn, IsShowing}
 use Rattle.rule_proofs.proofs.Lefts.{picked_same}
-use Rattle.rule_proofs.proofs.Shown.{done-both, weights_both}
+use Rattle.rule_proofs.proofs.Shown.{laid_last, done-both, weights_both}
 
 module _ (v w : Written) (same : (i : ℕ) → i < count v → tree_at w.trees i ≡ tree_at v.trees i) where
   done-same : (e : Branch) (tasks : List Task) (s : Shown) → AreUnder (count v) tasks → done w.trees e tasks s ≡ done v.trees e tasks s
@@ -83,3 +85,15 @@ begins v gs f tasks values l e d =
 
 pub ends : (v w : Written) (gs : List ℕ) (f : ℕ) (tasks : List Task) (values : List Value) → tasks ≡ [] → IsShowing v w gs f tasks values → opens w ≡ shows (entries_of (picked v.trees gs)) (tree_at v.trees f) ∷ opens v
 ends v w gs f tasks values e h = ap (λ (s : Shown). s.proofs) (ap (λ ts. done v.trees (entries_of (picked v.trees gs)) ts (shown_of values (opens w))) (sym e) ∙ h.done)
+
+pub ends_value : (v w : Written) (gs : List ℕ) (f : ℕ) (tasks : List Task) (values mid : List Value) (x : Value) → tasks ≡ [] → values ≡ mid ++ x ∷ [] → IsShowing v w gs f tasks values → truth_of x ≡ truth (entries_of (picked v.trees gs)) (tree_at v.trees f)
+ends_value v w gs f tasks values mid x e k h =
+    let a : laid [] values ≡ truth (entries_of (picked v.trees gs)) (tree_at v.trees f) ∷ [] = ap (λ (s : Shown). s.values) (ap (λ ts. done v.trees (entries_of (picked v.trees gs)) ts (shown_of values (opens w))) (sym e) ∙ h.done) in
+    let b : laid [] values ≡ truth_of x ∷ laid [] mid = ap (laid []) k ∙ laid_last [] mid x in
+    cc
+
+pub ends_none : (v w : Written) (gs : List ℕ) (f : ℕ) (tasks : List Task) (values : List Value) (x : Truth) → tasks ≡ [] → values ≡ [] → IsShowing v w gs f tasks values → x ≡ truth (entries_of (picked v.trees gs)) (tree_at v.trees f)
+ends_none v w gs f tasks values x e k h =
+    let a : laid [] values ≡ truth (entries_of (picked v.trees gs)) (tree_at v.trees f) ∷ [] = ap (λ (s : Shown). s.values) (ap (λ ts. done v.trees (entries_of (picked v.trees gs)) ts (shown_of values (opens w))) (sym e) ∙ h.done) in
+    let b : laid [] values ≡ [] = ap (laid []) k in
+    cc

@@ -5,11 +5,11 @@ ghost use Rattle.proof_writer.specs.Written.{opens, count, tree_at};
 ghost use Rattle.proof_trees.specs.Valued.{entries_of, not_by, and_by, or_by, imp_by, iff_by, shows};
 ghost use Rattle.rule_proofs.specs.Shown.{one_joined, two_joined, laid, joined, done, opened, IsOpened, whole_shown, shown_of, IsVisited, IsTurn, AreUnder};
 ghost use Rattle.rule_proofs.specs.declared.tasks.Task.TheVariants.{Visit, Join};
-ghost use Rattle.search_definition.specs.Values.{opposite, both_true, one_true, implied, same_truth, truth_by};
+ghost use Rattle.search_definition.specs.Values.{opposite, both_true, one_true, implied, same_truth, truth, truth_by};
 ghost use Rattle.search_definition.specs.Values.Truth.{Unknown};
 ghost use Rattle.rule_proofs.specs.Values.{truth_of, whole_of};
 
-use crate::show::{join_and, join_iff, join_imp, join_not, join_or, show_whole};
+use crate::reasons::{join_and, join_iff, join_imp, join_not, join_or, show_whole};
 use crate::value::{Reason, Value, both_true, find_reason, one_true, opposite, same_truth};
 use core_expr::Memory;
 use proof_writer::Writer;
@@ -298,12 +298,16 @@ fn turn(
     }
 }
 
-/// The proof of the formula `f`, which is true by the grounds, or of the contradiction of one that is false by them.
-pub fn show(w: &mut Writer, alloc: Global, grounds: &[u64], f: u64) -> Result<(), Memory>
+/// The proof of the formula `f`, which is true by the grounds, or of the contradiction of one that is false by them; the answer
+/// is its value.
+#[tactic(auto, using(crate::proofs::Showing::ends_value, crate::proofs::Showing::ends_none))]
+pub fn show(w: &mut Writer, alloc: Global, grounds: &[u64], f: u64) -> Result<Value, Memory>
     requires grounds { AreBelow (count w.old) grounds.now }
     requires below { f < count w.old }
     ensures more { count w.old ≤ count w.new }
     ensures same { (i : ℕ) → i < count w.old → tree_at w.new i ≡ tree_at w.old i }
+    ensures value { IfOk result (λ v. truth_of v
+        ≡ truth (entries_of (picked w.old.trees grounds.now)) (tree_at w.old f)) }
     ensures ok { OnOk result (opens w.new
         ≡ shows (entries_of (picked w.old.trees grounds.now)) (tree_at w.old f) ∷ opens w.old) }
 {
@@ -313,5 +317,8 @@ pub fn show(w: &mut Writer, alloc: Global, grounds: &[u64], f: u64) -> Result<()
     while let Some(task) = tasks.pop() {
         turn(w, alloc, grounds, task, &mut tasks, &mut values)?;
     }
-    Ok(())
+    match values.pop() {
+        Some(value) => Ok(value),
+        None => Ok(Value::Unknown),
+    }
 }

@@ -1,0 +1,4 @@
+mod Forms
+mod Closed
+mod Steps
+mod Chapters

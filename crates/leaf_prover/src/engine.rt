@@ -1,0 +1,57 @@
+//! The written search with a proof of what it proves.
+ghost use Rattle.std.specs.Prelude.{◌≡◌, true, IfOk};
+ghost use Rattle.proof_cache.specs.Verdicts.{Allowed};
+ghost use Rattle.leaf_prover.specs.Forms.{is_form};
+ghost use Rattle.leaf_prover.specs.Answers.{IsRight};
+ghost use Rattle.leaf_prover.specs.Searches.{IsSearched};
+
+use crate::search::{Searched, search_form};
+use crate::values::values_of;
+use core_expr::{Canon, Memory};
+use equation_proofs::Rules;
+use proof_cache::{Limit, Verdict};
+use proof_trees::steps_told;
+use search_loop::Ending;
+use seq_translate::translate;
+use std::alloc::Global;
+
+/// The verdict of a search on the form.
+fn verdict_of(alloc: Global, canon: &Canon, limit: Limit, s: Searched) -> Result<Verdict, Memory>
+    requires form { is_form canon.now ≡ true }
+    requires searched { IsSearched limit canon.now s }
+    ensures { IfOk result (IsRight limit canon.now) }
+{
+    let _ = limit;
+    steps_told();
+    match s.ending {
+        Ending::Closed(turns) => {
+            let proof = translate(&Rules, alloc, s.bank, s.turns.as_slice(), s.goal)?;
+            Ok(Verdict::Proved {
+                proof,
+                turns,
+                cached: false,
+            })
+        }
+        Ending::Saturated(turns) => {
+            let branch = s.branch.as_slice();
+            let valuation = values_of(alloc, &s.bank, branch, canon, s.symbols)?;
+            Ok(Verdict::Saturated { valuation, turns })
+        }
+        Ending::Spent(turns) => Ok(Verdict::Spent { turns }),
+    }
+}
+
+/// What the written search answers to the canonical form, with at most so many turns: a proved form comes with a proof that is correct
+/// for it. Want of memory is a verdict of its own.
+pub fn prove(alloc: Global, canon: &Canon, limit: Limit) -> Verdict
+    requires form { is_form canon.now ≡ true }
+    ensures { Allowed (IsRight limit) canon.now result }
+{
+    let Ok(searched) = search_form(alloc, canon, limit) else {
+        return Verdict::Memory;
+    };
+    match verdict_of(alloc, canon, limit, searched) {
+        Ok(verdict) => verdict,
+        Err(_) => Verdict::Memory,
+    }
+}

@@ -1,0 +1,6 @@
+mod DepthLaws
+mod ImageLaws
+mod AbstractedLaws
+mod TaskLaws
+mod WalkedLaws
+mod MadeLaws

@@ -1,0 +1,3 @@
+pub mod Abstracted
+pub mod Depths
+pub mod Walked
