@@ -1,6 +1,7 @@
--- The ending of a word.
-use Rattle.std.specs.Prelude.{◌≡◌, ◌≢◌, ℕ, ◌+◌, Bool, true, false, List, [], ◌∷◌, ◌++◌, length, codes}
-use Rattle.std.proofs.Common.{refl, ap, ◌∙◌, arith, length-append}
+-- The ending of a word, and texts that are equal.
+use Rattle.std.specs.Prelude.{◌≡◌, ◌≢◌, ℕ, ◌+◌, Bool, true, false, ◌&&◌, List, [], ◌∷◌, ◌++◌, length, codes}
+use Rattle.std.proofs.Common.{refl, ap, ◌∙◌, arith, eqb, length-append}
+use Rattle.std.specs.Cmp.Lexicographic.{pointwise}
 use Rattle.core_expr.specs.Terms.{lists_equal}
 use Rattle.core_expr.proofs.Equal.{lists-same}
 use Rattle.command_words.specs.Requests.{without_ending}
@@ -27,3 +28,14 @@ ending_absent (c ∷ cs) h =
     go : (b : Bool) → lists_equal (c ∷ cs) (codes ".tla") ≡ b → without_ending cs ≡ cs → elim b [ true ↦ [] | false ↦ c ∷ without_ending cs ] ≡ c ∷ cs
     go true e same = absurd (h [] (lists-same (c ∷ cs) (codes ".tla") e))
     go false e same = ap (λ l. c ∷ l) same
+
+-- the test of `==` on texts, number by number
+both_tests : (b c d : Bool) → c ≡ d → (b && c) ≡ elim b [ true ↦ d | false ↦ false ]
+both_tests true c d e = e
+both_tests false c d e = refl
+
+pub texts_equal : (xs ys : List ℕ) → pointwise eqb xs ys ≡ lists_equal xs ys
+texts_equal [] [] = refl
+texts_equal [] (y ∷ ys) = refl
+texts_equal (x ∷ xs) [] = refl
+texts_equal (x ∷ xs) (y ∷ ys) = both_tests (eqb x y) (pointwise eqb xs ys) (lists_equal xs ys) (texts_equal xs ys)

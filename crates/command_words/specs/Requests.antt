@@ -2,14 +2,15 @@
 use Rattle.std.specs.Prelude.{◌≡◌, ℕ, Bool, true, false, List, [], ◌∷◌, codes, Some, None, Option, option_map}
 use Rattle.core_expr.specs.Terms.{lists_equal}
 use Rattle.tla_ast.specs.Word.{is_identifier}
-use Rattle.clap.specs.Words.{Row, Text, first_of, one_of}
+use Rattle.clap.specs.Words.{Row, Text, first_of}
 use Rattle.command_words.specs.declared.request.Given.{Given}
 use Rattle.command_words.specs.declared.request.Request.{Request}
 use Rattle.command_words.specs.Words.{IsTaken, rows, IsNumber}
 
--- a flag by the text of its row
-abbrev pub IsFlag : Text → List Row → Bool → Type 0
-IsFlag name rows b = (one_of name rows ≡ Some (codes "true") → b ≡ true) × (one_of name rows ≡ Some (codes "false") → b ≡ false)
+-- a flag by the text of its row: set exactly where the text is `true`
+abbrev pub flag_of : Option (List ℕ) → Bool
+flag_of None = false
+flag_of (Some t) = lists_equal t (codes "true")
 
 -- the texts that are found
 pub record Gives (rows : List Row) (g : Given) : Type 0 where
@@ -17,7 +18,7 @@ pub record Gives (rows : List Row) (g : Given) : Type 0 where
   pub turns : option_map (λ s. s.now) g.turns ≡ first_of (codes "turns") rows
   pub workers : option_map (λ s. s.now) g.workers ≡ first_of (codes "workers") rows
   pub demo : option_map (λ s. s.now) g.demo ≡ first_of (codes "demo") rows
-  pub stop : IsFlag (codes "stop") rows g.stop
+  pub stop : option_map (λ s. s.now) g.stop ≡ first_of (codes "stop") rows
 
 -- a word without the ending .tla, where it has it
 abbrev pub without_ending : List ℕ → List ℕ
@@ -53,7 +54,7 @@ pub record GivesAsked (g : Given) (a : Asked) : Type 0 where
   pub turns : IsNumber 100000 1000000 (option_map (λ s. s.now) g.turns) a.turns
   pub workers : IsNumber 4 64 (option_map (λ s. s.now) g.workers) a.workers
   pub demo : IsDemo (option_map (λ s. s.now) g.demo) a.demo
-  pub stop : a.stop ≡ g.stop
+  pub stop : a.stop ≡ flag_of (option_map (λ s. s.now) g.stop)
 
 -- the words are lawful and ask for this: the command takes them, the module's word is an identifier but for one ending, and the numbers are in range
 pub record IsAsked (words : List Text) (a : Asked) : Type 0 where
@@ -62,7 +63,7 @@ pub record IsAsked (words : List Text) (a : Asked) : Type 0 where
   pub turns : IsNumber 100000 1000000 (first_of (codes "turns") (rows words)) a.turns
   pub workers : IsNumber 4 64 (first_of (codes "workers") (rows words)) a.workers
   pub demo : IsDemo (first_of (codes "demo") (rows words)) a.demo
-  pub stop : IsFlag (codes "stop") (rows words) a.stop
+  pub stop : a.stop ≡ flag_of (first_of (codes "stop") (rows words))
 
 -- the words ask for nothing
 abbrev pub Unlawful : List Text → Type 0

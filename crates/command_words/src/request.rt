@@ -1,7 +1,7 @@
 //! What the words ask for.
 ghost use Rattle.std.specs.Prelude.{◌≡◌, ℕ, List, Option, map, option_map, IfOk, IfErr, IfSome, IfNone, string_bytes};
 ghost use Rattle.command_words.specs.Words.{IsTaken, rows};
-ghost use Rattle.command_words.specs.Requests.{Asked, Gives, GivesAsked, IsAsked, IsRoot, IsDemo, Unlawful, asked_by, without_ending};
+ghost use Rattle.command_words.specs.Requests.{Asked, Gives, GivesAsked, IsAsked, IsRoot, IsDemo, Unlawful, asked_by, flag_of, without_ending};
 
 use crate::fault::WordsFault;
 use crate::matched::matches_for;
@@ -16,7 +16,7 @@ pub struct Given<'a> {
     pub turns: Option<&'a str>,
     pub workers: Option<&'a str>,
     pub demo: Option<&'a str>,
-    pub stop: bool,
+    pub stop: Option<&'a str>,
 }
 
 /// What the words ask for.
@@ -47,7 +47,7 @@ fn read<'a>(alloc: Global, words: &'a [String]) -> Result<Given<'a>, WordsFault>
         turns: matches.get_str("turns"),
         workers: matches.get_str("workers"),
         demo: matches.get_str("demo"),
-        stop: matches.get_flag("stop"),
+        stop: matches.get_str("stop"),
     })
 }
 
@@ -89,6 +89,16 @@ fn demo(text: Option<&str>) -> Option<Option<u64>>
     }
 }
 
+/// Whether a flag is set, by the text for it.
+fn flag(text: Option<&str>) -> bool
+    ensures { result ≡ flag_of (option_map (λ s. s.now) text.entry) }
+{
+    match text {
+        None => false,
+        Some(text) => text == "true",
+    }
+}
+
 /// What texts ask for: None exactly where they ask for nothing.
 fn asked_for<'a>(given: Given<'a>) -> Option<Request<'a>>
     ensures some { IfSome result (λ r. GivesAsked given.entry (asked_by r)) }
@@ -99,7 +109,7 @@ fn asked_for<'a>(given: Given<'a>) -> Option<Request<'a>>
         turns: number(given.turns, 100000, 1000000)?,
         workers: number(given.workers, 4, 64)?,
         demo: demo(given.demo)?,
-        stop: given.stop,
+        stop: flag(given.stop),
     })
 }
 

@@ -6,3 +6,4 @@ mod Meant
 mod SearchLaws
 mod ProofLaws
 mod NodeLaws
+mod Saying

@@ -24,10 +24,6 @@ answer_for c (Closed turns) = Proved turns
 answer_for c (Open branch turns) = Saturated (values_of c branch) turns
 answer_for c (Cut turns) = Spent turns
 
--- the limit of turns where none is asked for
-abbrev pub turn_limit : ℕ
-turn_limit = 100000
-
 -- how the written search ends on a canonical form, with at most so many turns
 unfoldable pub end_of : ℕ → Canon → End
 end_of n c = search c.facts c.goal n

@@ -4,3 +4,4 @@ pub mod Forms
 pub mod Answers
 pub mod Searches
 pub mod Laws
+pub mod Provers

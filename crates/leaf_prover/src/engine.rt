@@ -5,11 +5,12 @@ ghost use Rattle.leaf_prover.specs.Forms.{is_form};
 ghost use Rattle.leaf_prover.specs.Answers.{IsRight};
 ghost use Rattle.leaf_prover.specs.Searches.{IsSearched};
 
+use crate::form::is_form;
 use crate::search::{Searched, search_form};
 use crate::values::values_of;
 use core_expr::{Canon, Memory};
 use equation_proofs::Rules;
-use proof_cache::{Limit, Verdict};
+use proof_cache::{Cache, Limit, Prover, Verdict};
 use proof_trees::steps_told;
 use search_loop::Ending;
 use seq_translate::translate;
@@ -53,5 +54,32 @@ pub fn prove(alloc: Global, canon: &Canon, limit: Limit) -> Verdict
     match verdict_of(alloc, canon, limit, searched) {
         Ok(verdict) => verdict,
         Err(_) => Verdict::Memory,
+    }
+}
+
+/// The prover of jobs: the written search on forms.
+#[derive(Drop)]
+pub struct Engine {
+    alloc: Global,
+}
+
+impl Engine {
+    /// The prover whose searches take memory here.
+    pub fn new(alloc: Global) -> Engine {
+        Engine { alloc }
+    }
+}
+
+impl Prover for Engine {
+    ghost use Rattle.leaf_prover.specs.Provers.{IsAnswered};
+
+    ghost answers = { λ e records n c v. IsAnswered n c v };
+
+    /// The verdict of the written search on a form. What is no form is not searched.
+    fn prove(&self, canon: &Canon, _cache: &Cache, limit: Limit) -> Verdict {
+        if !is_form(canon) {
+            return Verdict::Spent { turns: 0 };
+        }
+        prove(self.alloc, canon, limit)
     }
 }

@@ -1,5 +1,6 @@
 //! What answers mean. The functions do nothing: their contracts are the laws.
 ghost use Rattle.leaf_prover.specs.Laws.{ProvedDerives, ProvedIsValid, ValuesFalsify, EnoughTurnsDecide, FewConnectivesDecide};
+ghost use Rattle.leaf_prover.specs.Provers.{RightIsAnswered};
 
 use proof_trees::loop_proves;
 use propositional_laws::{
@@ -35,3 +36,9 @@ pub fn enough_turns_decide()
     decides_propositional();
     few_connectives();
 }
+
+/// A right verdict of a job says what the written search answers to its form.
+#[tactic(auto, using(crate::proofs::Saying::right_is_answered))]
+pub fn right_is_answered()
+    ensures { RightIsAnswered }
+{}

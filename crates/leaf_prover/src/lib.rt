@@ -5,6 +5,8 @@
 //!   that the search over shared nodes can take.
 //! - [`answer_to`] answers what the written search answers to such a form with a limit of turns: proved, saturated, with the values of its
 //!   symbols where the form is propositional, or spent. Want of memory is the only other answer.
+//! - [`Engine`] is the prover of jobs. A list of formulas that is no form is not searched, and is spent after no turn; a right verdict says
+//!   what the written search answers ([`right_is_answered`]).
 //! - [`prove`] gives the same as a verdict, in which a proved form has a sequent proof that is correct for it.
 //! - What answers mean, of the definition in `specs/Answers.antt`: the goal of a proved form has a derivation from its facts
 //!   ([`proved_derives`]), values that are found falsify their form ([`values_are_right`]), and with enough turns a propositional form is
@@ -21,7 +23,7 @@ mod unused;
 mod values;
 
 pub use answer::Answer;
-pub use engine::prove;
+pub use engine::{Engine, prove};
 pub use form::is_form;
-pub use laws::{enough_turns_decide, proved_derives, values_are_right};
+pub use laws::{enough_turns_decide, proved_derives, right_is_answered, values_are_right};
 pub use search::answer_to;

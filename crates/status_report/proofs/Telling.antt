@@ -82,8 +82,9 @@ module _ (style : Style) (ms : List ModuleIn) (s told : Told) where
   pub proved_are : s ≡ start → told ≡ fold (tell_module style) s ms → count_by (λ v. v) told.proved ≡ count_by is_proved (statuses_of ms)
   proved_are b e = ap (count_by (λ v. v)) (flags-told b e) ∙ count-map is_proved (statuses_of ms)
 
-  pub text_is : (text : Bytes) → s ≡ start → told ≡ fold (tell_module style) s ms → text ≡ told.text ++ count_line (length told.proved) (count_by (λ v. v) told.proved) → text ≡ report_text style ms
+  pub text_is : (stopped : Bool) (text : Bytes) → s ≡ start → told ≡ fold (tell_module style) s ms → text ≡ told.text ++ count_line stopped (length told.proved) (count_by (λ v. v) told.proved)
+      → text ≡ report_text style stopped ms
   unfolding report_text
-  text_is text b e t =
+  text_is stopped text b e t =
       let lines = ap (λ (x : Told). x.text) (e ∙ ap (λ x. fold (tell_module style) x ms) b ∙ told_modules style start ms) in
-      t ∙ (λ i. lines i ++ count_line (theorems_are b e i) (proved_are b e i))
+      t ∙ (λ i. lines i ++ count_line stopped (theorems_are b e i) (proved_are b e i))

@@ -54,17 +54,18 @@ all_theorems ms = flat_map (λ (m : ModuleIn). m.theorems) ms
 abbrev pub statuses_of : List ModuleIn → List Status
 statuses_of ms = statuses_from nothing (all_theorems ms)
 
-abbrev pub last_line : List ModuleIn → Bytes
-last_line ms = count_line (length (all_theorems ms)) (count_by is_proved (statuses_of ms))
+-- the last line of a run that was stopped or not
+abbrev pub last_line : Bool → List ModuleIn → Bytes
+last_line stopped ms = count_line stopped (length (all_theorems ms)) (count_by is_proved (statuses_of ms))
 
 -- what a style writes of a text before the last line
 abbrev pub in_style : Style → Bytes → Bytes
 in_style Plain text = text
 in_style Brief text = []
 
--- the report of modules
-unfoldable pub report_text : Style → List ModuleIn → Bytes
-report_text style ms = in_style style (modules_lines nothing ms) ++ last_line ms
+-- the report of modules, of a run that was stopped or not
+unfoldable pub report_text : Style → Bool → List ModuleIn → Bytes
+report_text style stopped ms = in_style style (modules_lines nothing ms) ++ last_line stopped ms
 
 abbrev pub is_memory : Shown → Bool
 is_memory shown.Memory = true

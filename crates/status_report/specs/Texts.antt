@@ -1,5 +1,5 @@
 -- The texts of which a report is made.
-use Rattle.std.specs.Prelude.{ℕ, List, [], ◌∷◌, ◌++◌, Option, Some, None, codes, decimal}
+use Rattle.std.specs.Prelude.{ℕ, Bool, true, false, List, [], ◌∷◌, ◌++◌, Option, Some, None, codes, decimal}
 use Rattle.tla_ast.specs.declared.place.Place.{Place}
 use Rattle.status_report.specs.declared.table.Shown.{Shown}
 use Rattle.status_report.specs.declared.table.Shown.TheVariants as shown
@@ -42,6 +42,11 @@ verdict_text shown.Missing = codes "missing"
 abbrev pub leaf_line : LeafIn → Bytes
 leaf_line leaf = line (codes "  leaf " ++ place_text leaf.place ++ codes " " ++ verdict_text leaf.verdict)
 
--- the last line
-abbrev pub count_line : ℕ → ℕ → Bytes
-count_line theorems proved = line (decimal theorems ++ codes " theorems, " ++ decimal proved ++ codes " proved")
+-- the end of the last line, which tells of a run that was stopped
+abbrev pub stop_text : Bool → Bytes
+stop_text true = codes ", stopped"
+stop_text false = []
+
+-- the last line: whether the run was stopped, how many theorems there are, and how many of them are proved
+abbrev pub count_line : Bool → ℕ → ℕ → Bytes
+count_line stopped theorems proved = line (decimal theorems ++ codes " theorems, " ++ decimal proved ++ codes " proved" ++ stop_text stopped)

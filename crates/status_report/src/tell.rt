@@ -165,10 +165,16 @@ fn has_memory_leaf(modules: &[ModuleIn]) -> bool
     modules.iter().any(module_wants_memory)
 }
 
-/// The report of modules. Want of memory is the only other answer. Takes near linear time.
+/// The report of modules, which says at its end where the run was stopped. Want of memory is the only other answer. Takes near linear
+/// time.
 #[tactic(auto, unfolding(crate::specs::Report::report_text))]
-pub fn report(alloc: Global, modules: &[ModuleIn], style: Style) -> Result<Report, Memory>
-    ensures text { IfOk result (λ r. r.text.items ≡ report_text style modules.now) }
+pub fn report(
+    alloc: Global,
+    modules: &[ModuleIn],
+    style: Style,
+    stopped: bool,
+) -> Result<Report, Memory>
+    ensures text { IfOk result (λ r. r.text.items ≡ report_text style stopped modules.now) }
     ensures theorems { IfOk result (λ r. r.theorems ≡ length (all_theorems modules.now)) }
     ensures proved { IfOk result (λ r. r.proved ≡ count_by is_proved (statuses_of modules.now)) }
     ensures memory { IfOk result (λ r. r.memory_leaf ≡ has_memory_leaf modules.now) }
@@ -187,7 +193,7 @@ pub fn report(alloc: Global, modules: &[ModuleIn], style: Style) -> Result<Repor
     let flags = proved.as_slice();
     let theorems = flags.len();
     let proved = count_true(flags);
-    push_count(&mut text, theorems, proved)?;
+    push_count(&mut text, theorems, proved, stopped)?;
     Ok(Report {
         text,
         theorems,

@@ -1,7 +1,7 @@
 //! The texts of which a report is made.
 
 ghost use Rattle.std.specs.Prelude.{◌≡◌, ◌++◌, codes, decimal, flat_map, OnOk};
-ghost use Rattle.status_report.specs.Texts.{line, place_text, name_text, valuation_text, verdict_text, leaf_line, count_line};
+ghost use Rattle.status_report.specs.Texts.{line, place_text, name_text, valuation_text, verdict_text, leaf_line, stop_text, count_line};
 
 use crate::table::{LeafIn, Shown};
 use core_expr::Text;
@@ -113,12 +113,24 @@ pub fn push_leaves(out: &mut Vec<u8>, leaves: &[LeafIn]) -> Result<(), AllocErro
     Ok(())
 }
 
+/// The end of the last line, which tells of a run that was stopped.
+fn stop_text(stopped: bool) -> &'static [u8]
+    ensures { result.now ≡ stop_text stopped }
+{
+    if stopped { b", stopped" } else { b"" }
+}
+
 /// Appends the last line.
-pub fn push_count(out: &mut Vec<u8>, theorems: usize, proved: usize) -> Result<(), AllocError>
-    ensures { OnOk result (out.new.items ≡ out.old.items ++ count_line theorems proved) }
+pub fn push_count(
+    out: &mut Vec<u8>,
+    theorems: usize,
+    proved: usize,
+    stopped: bool,
+) -> Result<(), AllocError>
+    ensures { OnOk result (out.new.items ≡ out.old.items ++ count_line stopped theorems proved) }
 {
     push_number(out, theorems as u64)?;
     out.extend_from_slice(b" theorems, ")?;
     push_number(out, proved as u64)?;
-    out.extend_from_slice(b" proved\n")
+    push_line(out, b" proved", stop_text(stopped))
 }

@@ -23,6 +23,7 @@ pub trait Answers: Sync {
 }
 
 /// The jobs of a run in order, with what proves them, the records of its cache, and its limit of turns.
+#[derive(Drop)]
 pub struct Jobs<'a, P> {
     pub list: &'a [Canon],
     pub prover: &'a P,

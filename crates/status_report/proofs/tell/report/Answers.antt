@@ -17,6 +17,6 @@ returns-clause-proved c =
 pub returns-clause-text : goal.returns-clause-text
 returns-clause-text c =
     let told = c.tell_modules.new.told in
-    text_is c.args.style c.args.modules.now _ (told_of told) c.push_count.new.out.items (λ i. record { seen = c.new.ensures i; text = c.new-2.ensures.items i; proved = c.new-3.ensures.items i })
+    text_is c.args.style c.args.modules.now _ (told_of told) c.args.stopped c.push_count.new.out.items (λ i. record { seen = c.new.ensures i; text = c.new-2.ensures.items i; proved = c.new-3.ensures.items i })
     c.in_ok-tell_modules.ensures
-    (c.in_ok-push_count.ensures ∙ (λ i. told.text.items ++ count_line ((ap length c.as_slice-flags.ensures.value) i) ((c.count_true-proved.ensures ∙ ap (count_by (λ v. v)) c.as_slice-flags.ensures.value) i)))
+    (c.in_ok-push_count.ensures ∙ (λ i. told.text.items ++ count_line c.args.stopped ((ap length c.as_slice-flags.ensures.value) i) ((c.count_true-proved.ensures ∙ ap (count_by (λ v. v)) c.as_slice-flags.ensures.value) i)))
