@@ -8,11 +8,11 @@ use cases::{Case, expressions, lexer, theorems};
 use core_expr::{Memory, Text};
 use itoa::Buffer;
 use layout_parser::read_expr;
-use proof_manager::run;
+use proof_manager::{Through, run};
 use std::alloc::Global;
 use std::io;
-use std::process::ExitCode;
-use std::time::Instant;
+use std::thread::Threads;
+use std::time::{Clock, Instant};
 use tla_io::{MemCache, MemShelf, MemSink, command_words};
 use tla_lexer::lex;
 
@@ -58,7 +58,7 @@ fn is_read(alloc: Global, text: &[u8]) -> bool {
 }
 
 /// Whether the run on a text wrote its report.
-fn is_answered(alloc: Global, text: &[u8]) -> Result<bool, Memory> {
+fn is_answered<R: Threads + Sync>(rt: &R, alloc: Global, text: &[u8]) -> Result<bool, Memory> {
     let mut words = Vec::new(alloc);
     words.push(String::from_str(alloc, "tla_prove")?)?;
     words.push(String::from_str(alloc, "M")?)?;
@@ -68,27 +68,41 @@ fn is_answered(alloc: Global, text: &[u8]) -> Result<bool, Memory> {
     let mut cache = MemCache::new(Text::of(alloc, b"f")?, Vec::new(alloc), Vec::new(alloc));
     let room = 1 << 30;
     let mut sink = MemSink::new(alloc, room, room, Vec::new(alloc))?;
-    Ok(run(alloc, &words, &mut shelf, &mut cache, &mut sink).code() < 2)
+    let status = run(
+        rt, alloc, &words, &mut shelf, &mut cache, &mut sink, &Through,
+    );
+    Ok(status.code() < 2)
 }
 
 /// Does once what is timed, and answers whether that went well.
-fn once(alloc: Global, layer: Layer, text: &[u8]) -> Result<bool, Memory> {
+fn once<R: Threads + Sync>(
+    rt: &R,
+    alloc: Global,
+    layer: Layer,
+    text: &[u8],
+) -> Result<bool, Memory> {
     match layer {
         Layer::Lexer => Ok(lex(alloc, text).is_ok()),
         Layer::Expressions => Ok(is_read(alloc, text)),
-        Layer::Theorems => is_answered(alloc, text),
+        Layer::Theorems => is_answered(rt, alloc, text),
     }
 }
 
 /// Times a case at a size.
-fn time(rt: &HostRuntime, layer: Layer, case: &Case, count: u32, rounds: u32) -> io::Result<()> {
+fn time<R: Clock + Print + AllocGlobal + Threads + Sync>(
+    rt: &R,
+    layer: Layer,
+    case: &Case,
+    count: u32,
+    rounds: u32,
+) -> io::Result<()> {
     let Ok(text) = text_of(rt.alloc(), case, count) else {
         return Ok(());
     };
     let start = Instant::now(rt)?;
     let mut is_well = false;
     for _ in 0..rounds {
-        is_well = once(rt.alloc(), layer, &text).unwrap_or(false);
+        is_well = once(rt, rt.alloc(), layer, &text).unwrap_or(false);
     }
     let micros = start.elapsed(rt)?.as_micros();
     let (name, bytes) = (case.name, text.len());
@@ -96,7 +110,11 @@ fn time(rt: &HostRuntime, layer: Layer, case: &Case, count: u32, rounds: u32) ->
 }
 
 /// Times each case of a layer.
-fn time_all(rt: &HostRuntime, layer: Layer, cases: &[Case]) -> io::Result<()> {
+fn time_all<R: Clock + Print + AllocGlobal + Threads + Sync>(
+    rt: &R,
+    layer: Layer,
+    cases: &[Case],
+) -> io::Result<()> {
     for case in cases {
         time(
             rt,

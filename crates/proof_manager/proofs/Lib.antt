@@ -1,11 +1,6 @@
-pub mod WordLaws
 pub mod Counting
-pub mod ValueLaws
-pub mod Walks
-pub mod Tells
-pub mod Wants
 pub mod Loaded
 pub mod Readings
+pub mod Lost
 pub mod Meant
-mod Answered
 pub mod Lines

@@ -1,22 +1,27 @@
 -- How many theorems are proved, and what a run says.
-use Rattle.std.specs.Prelude.{◌≡◌, ℕ, suc, ◌+◌, ◌≤◌, Bool, true, false, ◌&&◌, cond, nat_eq, List, [], ◌∷◌, Option, None, Some, length, count_by, Result, Ok, Err, OnOk}
-use Rattle.std.specs.Result.{is_err}
+use Rattle.std.specs.Prelude.{◌≡◌, ℕ, suc, ◌+◌, ◌≤◌, Bool, true, false, ◌&&◌, cond, nat_eq, List, [], ◌∷◌, Option, None, Some, codes, length, count_by}
 use Rattle.std.specs.List.{list_all}
 use Rattle.std.proofs.Common.{refl, ap, sym, subst, ◌∙◌, arith, zero-add}
 use Rattle.std.proofs.lemmas.Bool.Decides.{nat_tests}
 use Rattle.std.proofs.lemmas.List.Sums.{sum_by-append, count_by-le-length}
+use Rattle.clap.specs.Words.{first_of}
 use Rattle.tla_io.specs.Told.{Bytes, Folder}
-use Rattle.name_places.specs.Places.{NamesDiffer}
+use Rattle.core_expr.specs.declared.canon.Canon.{Canon}
+use Rattle.theorem_leaves.specs.Chapters.{chapters_of}
 use Rattle.proof_contexts.specs.Statuses.{is_proved}
 use Rattle.status_report.specs.declared.table.TheoremIn.{TheoremIn}
 use Rattle.status_report.specs.declared.table.ModuleIn.{ModuleIn}
+use Rattle.status_report.specs.declared.table.Style.{Style}
 use Rattle.status_report.specs.Statuses.{Seen, see, nothing, statuses_from}
-use Rattle.status_report.specs.Report.{all_theorems, statuses_of}
+use Rattle.status_report.specs.Report.{all_theorems, statuses_of, has_memory_leaf}
+use Rattle.leaf_jobs.specs.Laws.{ReportWithoutMemory}
+use Rattle.command_words.specs.Words.{IsNumber, rows}
+use Rattle.command_words.specs.Requests.{Asked, IsAsked, IsDemo}
 use Rattle.proof_manager.specs.declared.status.Status.{Status}
 use Rattle.proof_manager.specs.declared.status.Status.TheVariants as status
 use Rattle.proof_manager.specs.Reading.{Read}
-use Rattle.proof_manager.proofs.Tells.{modules-same}
-use Rattle.proof_manager.specs.Causes.{all_hold, TakesReport, Loads, Writes, WhereReported, IsRead, ReadIsJust, ReadIsDecided, ReportCause, Justified, Decided}
+use Rattle.proof_manager.specs.Runs.{IsRead, came, defined, told, style_for, all_hold, IsDemoSize, InRange}
+use Rattle.proof_manager.specs.Causes.{WhereTold, TakesReport, TakesPart, EndsTold, WhereReported, Writes}
 
 -- ---- counts
 
@@ -44,49 +49,53 @@ as-many : (s : Seen) (ts : List TheoremIn) → length (statuses_from s ts) ≡ l
 as-many s [] = refl
 as-many s (t ∷ ts) = ap suc (as-many (see s t) ts)
 
-pub all_proved : (ms : List ModuleIn) (proved theorems : ℕ) → proved ≡ count_by is_proved (statuses_of ms) → theorems ≡ length (all_theorems ms) → nat_eq proved theorems ≡ all_hold ms
+pub all_proved : (ms : List ModuleIn) (proved theorems : ℕ) → proved ≡ count_by is_proved (statuses_of ms) → theorems ≡ length (all_theorems ms) → nat_eq proved theorems ≡ list_all is_proved (statuses_of ms)
 all_proved ms proved theorems p t =
     (λ i. nat_eq (p i) ((t ∙ sym (as-many nothing (all_theorems ms))) i)) ∙ all_count is_proved (statuses_of ms)
 
-pub as-equal : (a b : ℕ) → a ≡ b → nat_eq a b ≡ true
-as-equal a b h = grind (arith, nat_tests)
-
-pub as-unequal : (a b : ℕ) → (a ≡ b → ⊥) → nat_eq a b ≡ false
-as-unequal a b h = by (nat_eq a b) refl
-  where
-    by : (t : Bool) → nat_eq a b ≡ t → t ≡ false
-    by false e = refl
-    by true e = absurd (h (grind (arith, nat_tests)))
-
-pub where-ok : {T E : Type 0} {P : Type 0} (r : Result T E) → is_err r ≡ false → OnOk r P → P
-where-ok (Ok t) e h = h
-where-ok (Err x) e h = absurd cc
+as-defined : (a : Asked) (r : Read) (lost : Canon → Bool) (ms : List ModuleIn × Bool) → ReportWithoutMemory → ms ≡ told lost a r → has_memory_leaf ms.0 ≡ false → ms ≡ defined a r
+as-defined a r lost ms law e m =
+    e ∙ law a.stop lost (came a.turns) r.table.entries (chapters_of r.modules r.table) (sym (ap (λ (m : List ModuleIn × Bool). has_memory_leaf m.0) e) ∙ m)
 
 -- ---- what a run says, where the modules are read and the report is written
 
-pub reports : (s : Status) (told : Option Folder) (root : Bytes) (js : List ModuleIn) (old new : Option Bytes) → Loads (Ok js) told root → Writes s js old new → ReportCause s told (Some root) old new
-reports s None root js old new l w = tt
-reports status.AllProved (Some folder) root js old new l w =
-    let same = modules-same js l.0.judged l.2 w.0 in (l.0, l.1, sym (ap all_hold same) ∙ w.1, subst (λ ms. TakesReport ms old new) same w.2)
-reports status.NotAll (Some folder) root js old new l w =
-    let same = modules-same js l.0.judged l.2 w.0 in (l.0, l.1, sym (ap all_hold same) ∙ w.1, subst (λ ms. TakesReport ms old new) same w.2)
-reports status.MemoryLeaf (Some folder) root js old new l w = (l.0, l.1, js, l.2, w.0, w.1)
-reports status.WriteFault (Some folder) root js old new l w = (l.0, l.1, js, l.2, w)
-reports status.Memory (Some folder) root js old new l w = tt
-reports _ (Some folder) root js old new l w = absurd w
+pub reports : (s : Status) (held : Option Folder) (a : Asked) (r : Read) (lost : Canon → Bool) (ms : List ModuleIn × Bool) (old new : Option Bytes) → ReportWithoutMemory
+    → WhereTold held (λ folder. IsRead a folder r) → ms ≡ told lost a r → Writes s (style_for a.demo) ms old new → EndsTold s held a old new
+reports s None a r lost ms old new law h e w = tt
+reports status.AllProved (Some folder) a r lost ms old new law h e w =
+    let same = as-defined a r lost ms law e w.0 in (r, h, sym (ap all_hold same) ∙ w.1, subst (λ m. TakesReport (style_for a.demo) m old new) same w.2)
+reports status.NotAll (Some folder) a r lost ms old new law h e w =
+    let same = as-defined a r lost ms law e w.0 in (r, h, sym (ap all_hold same) ∙ w.1, subst (λ m. TakesReport (style_for a.demo) m old new) same w.2)
+reports status.MemoryLeaf (Some folder) a r lost ms old new law h e w =
+    (r, h, lost, sym (ap (λ (m : List ModuleIn × Bool). has_memory_leaf m.0) e) ∙ w.0, subst (λ m. TakesReport (style_for a.demo) m old new) e w.1)
+reports status.WriteFault (Some folder) a r lost ms old new law h e w = (r, h, lost, subst (λ m. TakesPart (style_for a.demo) m old new) e w)
+reports status.Memory (Some folder) a r lost ms old new law h e w = tt
+reports _ (Some folder) a r lost ms old new law h e w = absurd w
 
-reported : {P : Read → Type 0} (s : Status) (told : Option Folder) (root : Bytes) (js : List ModuleIn) (old new : Option Bytes) → Loads (Ok js) told root → Writes s js old new
-    → ((folder : Folder) (r : Read) → IsRead folder root r → NamesDiffer r.modules → P r) → WhereReported P s told (Some root)
-reported s None root js old new l w p = tt
-reported status.AllProved (Some folder) root js old new l w p = (l.0, l.1, p folder l.0 l.1 l.3)
-reported status.NotAll (Some folder) root js old new l w p = (l.0, l.1, p folder l.0 l.1 l.3)
-reported status.MemoryLeaf (Some folder) root js old new l w p = (l.0, l.1, p folder l.0 l.1 l.3)
-reported status.WriteFault (Some folder) root js old new l w p = (l.0, l.1, p folder l.0 l.1 l.3)
-reported status.Memory (Some folder) root js old new l w p = tt
-reported _ (Some folder) root js old new l w p = absurd w
+pub of-reported : (P : Asked → Read → Type 0) (s : Status) (held : Option Folder) (a : Asked) (r : Read) (style : Style) (ms : List ModuleIn × Bool) (old new : Option Bytes)
+    → WhereTold held (λ folder. IsRead a folder r) → Writes s style ms old new → ((folder : Folder) → IsRead a folder r → P a r) → WhereReported P s held a
+of-reported P s None a r style ms old new h w p = tt
+of-reported P status.AllProved (Some folder) a r style ms old new h w p = (r, h, p folder h)
+of-reported P status.NotAll (Some folder) a r style ms old new h w p = (r, h, p folder h)
+of-reported P status.MemoryLeaf (Some folder) a r style ms old new h w p = (r, h, p folder h)
+of-reported P status.WriteFault (Some folder) a r style ms old new h w p = (r, h, p folder h)
+of-reported P status.Memory (Some folder) a r style ms old new h w p = tt
+of-reported P _ (Some folder) a r style ms old new h w p = absurd w
 
-pub justified : (s : Status) (told : Option Folder) (root : Bytes) (js : List ModuleIn) (old new : Option Bytes) → Loads (Ok js) told root → Writes s js old new → ReadIsJust → Justified s told (Some root)
-justified s told root js old new l w just = reported s told root js old new l w (λ folder r e n. just folder root r e n)
+-- the numbers that words ask for are in range
+number-range : (other greatest : ℕ) → 1 ≤ other → other ≤ greatest → (o : Option (List ℕ)) (n : ℕ) → IsNumber other greatest o n → (1 ≤ n) × (n ≤ greatest)
+number-range other greatest l g None n h = (subst (λ k. 1 ≤ k) (sym h) l, subst (λ k. k ≤ greatest) (sym h) g)
+number-range other greatest l g (Some t) n h = (h.2, h.3)
 
-pub decided : (s : Status) (told : Option Folder) (root : Bytes) (js : List ModuleIn) (old new : Option Bytes) → Loads (Ok js) told root → Writes s js old new → ReadIsDecided → Decided s told (Some root)
-decided s told root js old new l w dec = reported s told root js old new l w (λ folder r e n. dec folder root r e)
+demo-range : (o : Option (List ℕ)) (d : Option ℕ) → IsDemo o d → IsDemoSize d
+demo-range None None h = tt
+demo-range None (Some n) h = absurd cc
+demo-range (Some t) None h = tt
+demo-range (Some t) (Some n) h = (h.2, h.3)
+
+pub in_range : (words : List Bytes) (a : Asked) → IsAsked words a → InRange a
+in_range words a h = record {
+  turns = number-range 100000 1000000 (omega arith) (omega arith) (first_of (codes "turns") (rows words)) a.turns h.turns;
+  workers = number-range 4 64 (omega arith) (omega arith) (first_of (codes "workers") (rows words)) a.workers h.workers;
+  demo = demo-range (first_of (codes "demo") (rows words)) a.demo h.demo;
+}

@@ -2,10 +2,8 @@
 use Rattle.std.proofs.Common.{◌≡◌, ℕ, Bool, true, false, if◌then◌else◌, List, [], ◌∷◌, ◌++◌, map, Option, Some, None, Result, Ok, Err, refl, sym, ap, subst, ◌∙◌}
 use Rattle.core_expr.specs.declared.canon.Canon.{Canon}
 use Rattle.tla_io.specs.Told.{Bytes, Folder}
-use Rattle.tla_ast.specs.declared.place.Place.{Place}
-use Rattle.tla_ast.specs.declared.unit.Module.{Module as source_module}
 use Rattle.tla_ast.specs.declared.fault.ScopeFault.{ScopeFault}
-use Rattle.plain_syntax.specs.Plain.{Text, Module}
+use Rattle.plain_syntax.specs.Plain.{Module}
 use Rattle.plain_syntax.specs.Syntax.{module_of}
 use Rattle.symbol_table.specs.declared.entry.Entry.{Entry}
 use Rattle.symbol_table.specs.Scoped.{Table}
@@ -18,7 +16,7 @@ use Rattle.proof_contexts.specs.declared.leaf.Leaf.{Leaf}
 use Rattle.proof_contexts.specs.declared.leaf.LeafKind.{LeafKind}
 use Rattle.proof_contexts.specs.declared.leaf.LeafKind.TheVariants as kind
 use Rattle.proof_contexts.specs.Canonical.{obligation_canon}
-use Rattle.proof_contexts.specs.Statuses.{Verdict, verdict}
+use Rattle.proof_contexts.specs.Statuses.{Verdict, Status, verdict}
 use Rattle.proof_contexts.specs.Theorems.{Theorem}
 use Rattle.proof_contexts.specs.Leaves.{IsDerived}
 use Rattle.proof_contexts.specs.Laws.{IsSound}
@@ -27,28 +25,32 @@ use Rattle.usable_facts.specs.Theorems.{is_theorem_of, all_theorems}
 use Rattle.name_places.specs.Places.{NamesDiffer, PlacesDiffer}
 use Rattle.proof_assembly.specs.Laws.{StatusesAreJustified, EachDerives}
 use Rattle.reading_places.specs.Laws.{ReadPlacesDiffer}
+use Rattle.propositional_laws.specs.Laws.{HasTurns, FewConnectives}
 use Rattle.leaf_prover.specs.declared.answer.Answer.{Answer as Searched}
 use Rattle.leaf_prover.specs.declared.answer.Answer.TheVariants.{Proved, Saturated, Spent}
 use Rattle.leaf_prover.specs.Forms.{is_form}
-use Rattle.leaf_prover.specs.Answers.{turn_limit, answer, is_proved}
-use Rattle.leaf_prover.specs.Laws.{ProvedDerives, ProvedIsValid, ValuesFalsify, FewConnectivesDecide}
-use Rattle.proof_manager.proofs.Counting.{forms_are_numbered}
-use Rattle.status_report.specs.declared.table.Shown.{Shown}
-use Rattle.status_report.specs.declared.table.LeafIn.{LeafIn}
+use Rattle.leaf_prover.specs.Answers.{answer, is_proved}
+use Rattle.leaf_prover.specs.Provers.{answered_where}
+use Rattle.leaf_prover.specs.Laws.{ProvedDerives, ProvedIsValid, ValuesFalsify, EnoughTurnsDecide}
+use Rattle.leaf_forms.specs.Leaves.{OfKind, OfLeaves, OfTheorems, OfChapters}
+use Rattle.leaf_forms.specs.Laws.{IsForm, LeavesAreForms}
 use Rattle.status_report.specs.declared.table.TheoremIn.{TheoremIn}
-use Rattle.status_report.specs.declared.table.ModuleIn.{ModuleIn}
-use Rattle.status_report.specs.Statuses.{verdict_of, leaf_verdicts, nothing}
+use Rattle.status_report.specs.Statuses.{verdict_of, leaf_verdicts}
 use Rattle.status_report.specs.Report.{all_theorems as reported_theorems, statuses_of}
 use Rattle.status_report.specs.Laws.{StandsFor, StandFor, StatusesAgree}
 use Rattle.theorem_leaves.specs.declared.chapter.TheoremLeaves.{TheoremLeaves}
 use Rattle.theorem_leaves.specs.declared.chapter.Chapter.{Chapter}
 use Rattle.theorem_leaves.specs.Chapters.{chapters_of, IsReportOf, AreReports, reports_in, ChaptersReport}
-use Rattle.proof_manager.specs.Judging.{Answer, and_then, each, shown_answer, shown_kind, judged_leaf, judged_theorem, judged_module, judged, as_verdict, verdict_on, form}
-use Rattle.proof_manager.specs.Reading.{Read, modules_fault, resolved, checked, read_with, read_of, as_outcome, reading}
-use Rattle.leaf_forms.specs.Leaves.{OfKind, OfLeaves, OfTheorems, OfChapters}
-use Rattle.proof_manager.specs.Causes.{IsRead, IsJustForm, IsDecidedForm, ReadIsJust, ReadIsDecided}
+use Rattle.leaf_jobs.specs.Came.{Came, with_lost, shown_of}
+use Rattle.leaf_jobs.specs.Came.Came.{proved, kept, saturated, spent, lost}
+use Rattle.leaf_jobs.specs.Judging.{judged_kind, judged_leaf, judged_theorem, judged}
+use Rattle.leaf_jobs.specs.Laws.{StatusesOfFront, FrontsAreProved}
+use Rattle.command_words.specs.Requests.{Asked}
+use Rattle.proof_manager.specs.Reading.{Answer, and_then, Read, modules_fault, resolved, checked, read_of, as_outcome, reading}
+use Rattle.proof_manager.specs.Runs.{given_for, IsRead, as_came, came, told}
+use Rattle.proof_manager.specs.Causes.{IsJustForm, IsDecidedForm, ReadsAreJust}
+use Rattle.proof_manager.proofs.Counting.{forms_are_numbered}
 use Rattle.proof_manager.proofs.Loaded.{loads-apart}
-use Rattle.proof_manager.proofs.Wants.{each-derives, all-told}
 
 -- ---- where there is a value
 
@@ -69,185 +71,156 @@ ok-is e = cc
 
 -- ---- leaves
 
--- the canonical form of a leaf that is answered is one of closed formulas
-abbrev IsAnswered : Canon → Type 0
-IsAnswered c = is_form c ≡ true
+-- what a job counts as
+abbrev as_verdict : Came → Verdict
+as_verdict (proved turns) = Verdict.Proved
+as_verdict kept = Verdict.Proved
+as_verdict (saturated values turns) = Verdict.Unproved
+as_verdict (spent turns) = Verdict.Unproved
+as_verdict lost = Verdict.Memory
 
-searched-form : (b : Bool) (s t : Shown) (e : ScopeFault) → ◌≡◌ {A = Answer Shown} (if b then Ok s else Err e) (Ok t) → (b ≡ true) × (s ≡ t)
-searched-form true s t e h = (refl, cc)
-searched-form false s t e h = absurd cc
+shown-verdict : (names : List Bytes) (x : Came) → verdict_of (shown_of names x) ≡ as_verdict x
+shown-verdict names (proved turns) = refl
+shown-verdict names kept = refl
+shown-verdict names (saturated values turns) = refl
+shown-verdict names (spent turns) = refl
+shown-verdict names lost = refl
 
-shown-verdict : (names : List Text) (a : Searched) → verdict_of (shown_answer names a) ≡ as_verdict a
-shown-verdict names (Proved turns) = refl
-shown-verdict names (Saturated values turns) = refl
-shown-verdict names (Spent turns) = refl
+module _ (f : Canon → Came) (es : List Entry) where
+  abbrev verdict_on : Canon → Verdict
+  verdict_on c = as_verdict (f c)
 
-module _ (es : List Entry) where
-  kind-answered : (owner : Text) (p : Place) (k : LeafKind) (s : Shown) → shown_kind es owner p k ≡ Ok s → OfKind IsAnswered k × (verdict_of s ≡ verdict verdict_on k)
-  kind-answered owner p (kind.Search o) s e =
-      let c = obligation_canon o in
-      let h = searched-form (is_form c) _ s (form owner p) e in
-      (h.0, sym (ap verdict_of h.1) ∙ shown-verdict _ (answer turn_limit c) ∙ sym (ap (λ b. if b then as_verdict (answer turn_limit c) else Verdict.Unproved) h.0))
-  kind-answered owner p kind.Missing s e = (tt, ap verdict_of (sym (ok-is e)))
-  kind-answered owner p kind.Omitted s e = (tt, ap verdict_of (sym (ok-is e)))
-  kind-answered owner p kind.Temporal s e = (tt, ap verdict_of (sym (ok-is e)))
-  kind-answered owner p kind.Shape s e = (tt, ap verdict_of (sym (ok-is e)))
+  kind-counts : (k : LeafKind) → verdict_of (judged_kind f es k) ≡ verdict verdict_on k
+  kind-counts (kind.Search o) = shown-verdict _ (f (obligation_canon o))
+  kind-counts kind.Missing = refl
+  kind-counts kind.Omitted = refl
+  kind-counts kind.Temporal = refl
+  kind-counts kind.Shape = refl
 
-  leaves-answered : (owner : Text) (ls : List Leaf) (js : List LeafIn) → each (judged_leaf es owner) ls ≡ Ok js
-      → OfLeaves IsAnswered ls × (leaf_verdicts js ≡ map (λ (l : Leaf). verdict verdict_on l.kind) ls)
-  leaves-answered owner [] js e = (tt, ap leaf_verdicts (sym (ok-is e)))
-  leaves-answered owner (l ∷ ls) js e =
-      let a = from-value (judged_leaf es owner l) _ js e in
-      let b = from-value (each (judged_leaf es owner) ls) _ js a.2 in
-      let s = from-value (shown_kind es owner l.place l.kind) _ a.0 a.1 in
-      let k = kind-answered owner l.place l.kind s.0 s.1 in
-      let r = leaves-answered owner ls b.0 b.1 in
-      ((k.0, r.0), ap leaf_verdicts (sym (ok-is b.2)) ∙ (λ i. (ap (λ (x : LeafIn). verdict_of x.verdict) (sym (ok-is s.2)) ∙ k.1) i ∷ r.1 i))
+  leaves-count : (ls : List Leaf) → leaf_verdicts (map (judged_leaf f es) ls) ≡ map (λ (l : Leaf). verdict verdict_on l.kind) ls
+  leaves-count [] = refl
+  leaves-count (l ∷ ls) = (λ i. kind-counts l.kind i ∷ leaves-count ls i)
 
   module _ (table : List Definition) (is_theorem : ℕ → Bool) where
-    theorem-stands : (owner : Text) (t : TheoremLeaves) (j : TheoremIn) (x : Theorem) → judged_theorem es owner t ≡ Ok j → IsReportOf table is_theorem t x
-        → OfLeaves IsAnswered t.leaves × StandsFor table is_theorem verdict_on j x
-    theorem-stands owner t j x e r =
-        let a = from-value (each (judged_leaf es owner) t.leaves) _ j e in
-        let l = leaves-answered owner t.leaves a.0 a.1 in
-        let same = ok-is a.2 in (
-          l.0,
-          (
-            ap (λ (y : TheoremIn). y.key) (sym same) ∙ r.key,
-            ap (λ (y : TheoremIn). y.cited) (sym same) ∙ r.cited,
-            ap (λ (y : TheoremIn). leaf_verdicts y.leaves) (sym same) ∙ l.1 ∙ ap (map (λ (l : Leaf). verdict verdict_on l.kind)) r.leaves,
-          ),
-        )
-
-    theorem-answered : (owner : Text) (ts : List TheoremLeaves) (js : List TheoremIn) → each (judged_theorem es owner) ts ≡ Ok js → OfTheorems IsAnswered ts
-    theorem-answered owner [] js e = tt
-    theorem-answered owner (t ∷ ts) js e =
-        let a = from-value (judged_theorem es owner t) _ js e in
-        let b = from-value (each (judged_theorem es owner) ts) _ js a.2 in
-        let l = from-value (each (judged_leaf es owner) t.leaves) _ a.0 a.1 in
-        ((leaves-answered owner t.leaves l.0 l.1).0, theorem-answered owner ts b.0 b.1)
-
-    chapters-answered : (cs : List Chapter) (js : List ModuleIn) → judged es cs ≡ Ok js → OfChapters IsAnswered cs
-    chapters-answered [] js e = tt
-    chapters-answered (c ∷ cs) js e =
-        let a = from-value (judged_module es c) _ js e in
-        let b = from-value (each (judged_module es) cs) _ js a.2 in
-        let t = from-value (each (judged_theorem es c.name) c.theorems) _ a.0 a.1 in
-        (theorem-answered c.name c.theorems t.0 t.1, chapters-answered cs b.0 b.1)
+    theorem-stands : (t : TheoremLeaves) (x : Theorem) → IsReportOf table is_theorem t x → StandsFor table is_theorem verdict_on (judged_theorem f es t) x
+    theorem-stands t x r = (r.key, r.cited, leaves-count t.leaves ∙ ap (map (λ (l : Leaf). verdict verdict_on l.kind)) r.leaves)
 
     -- theorems stand for those that they are told of, and so do those behind them
-    theorems-stand : (owner : Text) (ts : List TheoremLeaves) (js : List TheoremIn) (more : List TheoremLeaves) (others : List TheoremIn) (xs : List Theorem) → each (judged_theorem es owner) ts ≡ Ok js
-        → AreReports table is_theorem (ts ++ more) xs → ((ys : List Theorem) → AreReports table is_theorem more ys → StandFor table is_theorem verdict_on others ys) → StandFor table is_theorem verdict_on (js ++ others) xs
-    theorems-stand owner [] js more others xs e r rest = subst (λ l. StandFor table is_theorem verdict_on (l ++ others) xs) (ok-is e) (rest xs r)
-    theorems-stand owner (t ∷ ts) js more others [] e r rest = absurd r
-    theorems-stand owner (t ∷ ts) js more others (x ∷ xs) e r rest =
-        let a = from-value (judged_theorem es owner t) _ js e in
-        let b = from-value (each (judged_theorem es owner) ts) _ js a.2 in
-        subst (λ l. StandFor table is_theorem verdict_on (l ++ others) (x ∷ xs)) (ok-is b.2)
-        ((theorem-stands owner t a.0 x a.1 r.0).1, theorems-stand owner ts b.0 more others xs b.1 r.1 rest)
+    theorems-stand : (ts more : List TheoremLeaves) (others : List TheoremIn) (xs : List Theorem) → AreReports table is_theorem (ts ++ more) xs
+        → ((ys : List Theorem) → AreReports table is_theorem more ys → StandFor table is_theorem verdict_on others ys) → StandFor table is_theorem verdict_on (map (judged_theorem f es) ts ++ others) xs
+    theorems-stand [] more others xs r rest = rest xs r
+    theorems-stand (t ∷ ts) more others [] r rest = absurd r
+    theorems-stand (t ∷ ts) more others (x ∷ xs) r rest = (theorem-stands t x r.0, theorems-stand ts more others xs r.1 rest)
 
-    chapters-stand : (cs : List Chapter) (js : List ModuleIn) (xs : List Theorem) → judged es cs ≡ Ok js → AreReports table is_theorem (reports_in cs) xs → StandFor table is_theorem verdict_on (reported_theorems js) xs
-    chapters-stand [] js [] e r = subst (λ l. StandFor table is_theorem verdict_on (reported_theorems l) []) (ok-is e) tt
-    chapters-stand [] js (x ∷ xs) e r = absurd r
-    chapters-stand (c ∷ cs) js xs e r =
-        let a = from-value (judged_module es c) _ js e in
-        let b = from-value (each (judged_module es) cs) _ js a.2 in
-        let t = from-value (each (judged_theorem es c.name) c.theorems) _ a.0 a.1 in
-        subst (λ l. StandFor table is_theorem verdict_on (reported_theorems l) xs) (ok-is b.2)
-        (subst (λ (m : ModuleIn). StandFor table is_theorem verdict_on (m.theorems ++ reported_theorems b.0) xs) (ok-is t.2)
-        (theorems-stand c.name c.theorems t.0 (reports_in cs) (reported_theorems b.0) xs t.1 r (λ ys h. chapters-stand cs b.0 ys b.1 h)))
+    chapters-stand : (cs : List Chapter) (xs : List Theorem) → AreReports table is_theorem (reports_in cs) xs → StandFor table is_theorem verdict_on (reported_theorems (judged f es cs)) xs
+    chapters-stand [] [] r = tt
+    chapters-stand [] (x ∷ xs) r = absurd r
+    chapters-stand (c ∷ cs) xs r = theorems-stand c.theorems (reports_in cs) (reported_theorems (judged f es cs)) xs r (λ ys h. chapters-stand cs ys h)
 
--- ---- what is so of forms is so of all that are answered
+-- ---- what is so of all forms is so of all leaves
 
-of-leaves : (P : Canon → Type 0) → ((o : Obligation) → IsAnswered (obligation_canon o) → P (obligation_canon o)) → (ls : List Leaf) → OfLeaves IsAnswered ls → OfLeaves P ls
+of-leaves : (P : Canon → Type 0) → ((o : Obligation) → IsForm (obligation_canon o) → P (obligation_canon o)) → (ls : List Leaf) → OfLeaves IsForm ls → OfLeaves P ls
 of-leaves P f [] h = tt
 of-leaves P f (l ∷ ls) h = (of-kind l.kind h.0, of-leaves P f ls h.1)
   where
-    of-kind : (k : LeafKind) → OfKind IsAnswered k → OfKind P k
+    of-kind : (k : LeafKind) → OfKind IsForm k → OfKind P k
     of-kind (kind.Search o) h = f o h
     of-kind kind.Missing h = tt
     of-kind kind.Omitted h = tt
     of-kind kind.Temporal h = tt
     of-kind kind.Shape h = tt
 
-of-theorems : (P : Canon → Type 0) → ((o : Obligation) → IsAnswered (obligation_canon o) → P (obligation_canon o)) → (ts : List TheoremLeaves) → OfTheorems IsAnswered ts → OfTheorems P ts
+of-theorems : (P : Canon → Type 0) → ((o : Obligation) → IsForm (obligation_canon o) → P (obligation_canon o)) → (ts : List TheoremLeaves) → OfTheorems IsForm ts → OfTheorems P ts
 of-theorems P f [] h = tt
 of-theorems P f (t ∷ ts) h = (of-leaves P f t.leaves h.0, of-theorems P f ts h.1)
 
-of-chapters : (P : Canon → Type 0) → ((o : Obligation) → IsAnswered (obligation_canon o) → P (obligation_canon o)) → (cs : List Chapter) → OfChapters IsAnswered cs → OfChapters P cs
+of-chapters : (P : Canon → Type 0) → ((o : Obligation) → IsForm (obligation_canon o) → P (obligation_canon o)) → (cs : List Chapter) → OfChapters IsForm cs → OfChapters P cs
 of-chapters P f [] h = tt
 of-chapters P f (c ∷ cs) h = (of-theorems P f c.theorems h.0, of-chapters P f cs h.1)
 
 -- ---- what is read
 
-pub resolved_is : (o : Option (ℕ × ScopeFault)) (ms : List Module) (t : Table) → resolved o ms ≡ Ok t → resolution ms ≡ Ok t
+resolved_is : (o : Option (ℕ × ScopeFault)) (ms : List Module) (t : Table) → resolved o ms ≡ Ok t → resolution ms ≡ Ok t
 resolved_is None ms t e = e
 resolved_is (Some f) ms t e = let a = from-value (resolution _) (λ t. Err f.1) t e in absurd (never a.2)
   where
     never : ◌≡◌ {A = Answer Table} (Err f.1) (Ok t) → ⊥
     never e = cc
 
-pub record IsRight (r : Read) : Type 0 where
-  pub loaded : (folder : Folder) × (root : Bytes) × (ms : List source_module) × (loading None folder root ≡ Ok ms) × (map module_of ms ≡ r.modules)
+record IsRight (r : Read) : Type 0 where
   pub resolved : resolution r.modules ≡ Ok r.table
-  pub judged : judged r.table.entries (chapters_of r.modules r.table) ≡ Ok r.judged
+  pub apart : PlacesDiffer r.modules
 
-read-right : (folder : Folder) (root : Bytes) (r : Read) → IsRead folder root r → IsRight r
+read-right : ReadPlacesDiffer → (a : Asked) (folder : Folder) (r : Read) → IsRead a folder r → IsRight r
 unfolding reading read_of
-read-right folder root r e =
-    let l = from-loading (loading None folder root) _ r e in
+read-right places a folder r e =
+    let given = given_for a.root a.demo in
+    let l = from-loading (loading given folder a.root) _ r e in
     let ms = map module_of l.0 in
     let o = from-outcome (read_of ms) r l.2 in
-    let t = from-value (checked ms) (read_with ms) r o in
-    let j = from-value (judged t.0.entries (chapters_of ms t.0)) _ r t.2 in
-    subst IsRight (ok-is j.2) (record {
-      loaded = (folder, root, l.0, l.1, refl);
-      resolved = resolved_is (modules_fault ms) ms t.0 t.1;
-      judged = j.1;
-    })
+    let t = from-value (checked ms) _ r o in
+    subst IsRight (ok-is t.2) (record { resolved = resolved_is (modules_fault ms) ms t.0 t.1; apart = loads-apart places given folder a.root l.0 l.1 })
 
-sound : ProvedDerives → IsSound verdict_on
-sound derives c e = by (is_form c) refl
+-- ---- theorems
+
+-- a form counts as proved only where the search proves it, and so has a derivation
+came-proved : (b : Bool) (n : ℕ) (c : Canon) → as_verdict (as_came (answered_where b n c)) ≡ Verdict.Proved → (b ≡ true) × (is_proved (answer n c) ≡ true)
+came-proved true n c e = (refl, by (answer n c) e)
   where
-    proved : (a : Searched) → as_verdict a ≡ Verdict.Proved → is_proved a ≡ true
-    proved (Proved turns) h = refl
-    proved (Saturated values turns) h = cc
-    proved (Spent turns) h = cc
+    by : (x : Searched) → as_verdict (as_came x) ≡ Verdict.Proved → is_proved x ≡ true
+    by (Proved turns) e = refl
+    by (Saturated values turns) e = absurd cc
+    by (Spent turns) e = absurd cc
+came-proved false n c e = absurd cc
 
-    never : Verdict.Unproved ≡ Verdict.Proved → ⊥
-    never h = cc
+sound : ProvedDerives → (lost_ones : Canon → Bool) (n : ℕ) → IsSound (λ c. as_verdict (with_lost lost_ones (came n) c))
+sound derives lost_ones n c e = by (lost_ones c) e
+  where
+    by : (b : Bool) → as_verdict (if b then lost else came n c) ≡ Verdict.Proved → IsDerived c
+    by true e = absurd cc
+    by false e = let p = came-proved (is_form c) n c e in derives n c p.0 p.1
 
-    by : (b : Bool) → is_form c ≡ b → IsDerived c
-    by true h = derives turn_limit c h (proved (answer turn_limit c) (sym (ap (λ b. if b then as_verdict (answer turn_limit c) else Verdict.Unproved) h) ∙ e))
-    by false h = absurd (never (sym (ap (λ b. if b then as_verdict (answer turn_limit c) else Verdict.Unproved) h) ∙ e))
+-- what is so of all theorems that are proved is so of those of a front
+front-derives : (table : List Definition) (xs : List Theorem) (rs ss : List Status) → StatusesOfFront rs ss → EachDerives table xs ss → EachDerives table xs rs
+front-derives table [] rs ss f h = tt
+front-derives table (x ∷ xs) [] ss f h = tt
+front-derives table (x ∷ xs) (r ∷ rs) [] f h = absurd f
+front-derives table (x ∷ xs) (r ∷ rs) (s ∷ ss) f h = (λ p. h.0 (f.0 p), front-derives table xs rs ss f.1 h.1)
 
-right-derives : ReadPlacesDiffer → StatusesAreJustified → StatusesAgree → ChaptersReport → ProvedDerives → (r : Read) → IsRight r → NamesDiffer r.modules
-    → EachDerives (definitions_of r.modules r.table) (all_theorems r.modules r.table) (statuses_of r.judged)
-right-derives places justified agree report derives r h names =
-    let l = h.loaded in
+told-derives : StatusesAreJustified → StatusesAgree → ChaptersReport → FrontsAreProved → ProvedDerives → (a : Asked) (r : Read) → IsRight r → NamesDiffer r.modules → (lost_ones : Canon → Bool)
+    → EachDerives (definitions_of r.modules r.table) (all_theorems r.modules r.table) (statuses_of (told lost_ones a r).0)
+told-derives justified agree report fronts derives a r h names lost_ones =
     let table = definitions_of r.modules r.table in
     let is_theorem = is_theorem_of r.modules r.table in
-    subst (EachDerives table (all_theorems r.modules r.table))
-    (sym (agree table is_theorem verdict_on (reported_theorems r.judged) (all_theorems r.modules r.table)
-    (chapters-stand r.table.entries table is_theorem (chapters_of r.modules r.table) r.judged (all_theorems r.modules r.table) h.judged (report r.modules r.table))))
-    (justified r.modules r.table verdict_on h.resolved names (subst PlacesDiffer l.4 (loads-apart places None l.0 l.1 l.2 l.3)) (sound derives))
+    let theorems = all_theorems r.modules r.table in
+    let f = with_lost lost_ones (came a.turns) in
+    let js = judged f r.table.entries (chapters_of r.modules r.table) in
+    let on : Canon → Verdict = λ c. as_verdict (f c) in
+    front-derives table theorems (statuses_of (told lost_ones a r).0) (statuses_of js) (fronts a.stop js)
+    (subst (EachDerives table theorems)
+    (sym (agree table is_theorem on (reported_theorems js) theorems (chapters-stand f r.table.entries table is_theorem (chapters_of r.modules r.table) theorems (report r.modules r.table))))
+    (justified r.modules r.table on h.resolved names h.apart (sound derives lost_ones a.turns)))
 
-pub read_is_just : ReadPlacesDiffer → StatusesAreJustified → StatusesAgree → ChaptersReport → ProvedDerives → ProvedIsValid → ValuesFalsify → ReadIsJust
-read_is_just places justified agree report derives valid falsifies folder root r e names =
-    let h = read-right folder root r e in
-    record {
-      derived = λ js told. each-derives (definitions_of r.modules r.table) (all_theorems r.modules r.table) (reported_theorems js) (reported_theorems r.judged) nothing nothing (λ k d. d) (all-told js r.judged told)
-          (right-derives places justified agree report derives r h names);
-      leaves = of-chapters IsJustForm (λ o p. record {
-        derived = derives turn_limit (obligation_canon o) p;
-        valid = valid turn_limit (obligation_canon o);
-        falsified = falsifies turn_limit (obligation_canon o) (forms_are_numbered (map (unfolded o.defs) o.facts) (unfolded o.defs o.goal));
-      }) (chapters_of r.modules r.table)
-          (chapters-answered r.table.entries [] (λ k. false) (chapters_of r.modules r.table) r.judged h.judged);
-    }
+-- ---- all that is read
 
-pub read_is_decided : FewConnectivesDecide → ReadIsDecided
-read_is_decided decides folder root r e =
-    let h = read-right folder root r e in
-    of-chapters IsDecidedForm (λ o p. decides (obligation_canon o)) (chapters_of r.modules r.table)
-    (chapters-answered r.table.entries [] (λ k. false) (chapters_of r.modules r.table) r.judged h.judged)
+pub reads_are_just : ReadPlacesDiffer → StatusesAreJustified → StatusesAgree → ChaptersReport → FrontsAreProved → ProvedDerives → ProvedIsValid → ValuesFalsify → EnoughTurnsDecide → FewConnectives → LeavesAreForms → ReadsAreJust
+reads_are_just places justified agree report fronts derives valid falsifies enough few forms a folder r e names =
+    let h = read-right places a folder r e in
+    let cs = chapters_of r.modules r.table in
+    let all = forms r.modules r.table h.resolved h.apart in
+    let n = a.turns in (
+      record {
+        derived = told-derives justified agree report fronts derives a r h names;
+        leaves = of-chapters (IsJustForm n) (λ o p. record {
+          form = p;
+          derived = derives n (obligation_canon o) p;
+          valid = valid n (obligation_canon o);
+          falsified = falsifies n (obligation_canon o) (forms_are_numbered (map (unfolded o.defs) o.facts) (unfolded o.defs o.goal));
+        }) cs all;
+      },
+      of-chapters (IsDecidedForm n) (λ o p. let c = obligation_canon o in record {
+        enough = enough n c;
+        usual = λ is same less. enough n c is (subst (HasTurns c.facts c.goal) (sym same) ((few c.facts c.goal).0 less));
+        most = λ is same less. enough n c is (subst (HasTurns c.facts c.goal) (sym same) ((few c.facts c.goal).1 less));
+      }) cs all,
+    )

@@ -12,16 +12,10 @@ use Rattle.module_scope.specs.Resolution.{resolution}
 use Rattle.module_shelf.specs.declared.fault.LoadFault.{LoadFault}
 use Rattle.module_shelf.specs.declared.fault.LoadFault.TheVariants as load
 use Rattle.module_shelf.specs.Loading.{followed, loading}
-use Rattle.module_shelf.specs.Order.{IsOrdered}
 use Rattle.module_shelf.specs.Causes as shelf
-use Rattle.name_places.specs.Places.{NamesDiffer}
-use Rattle.theorem_leaves.specs.Chapters.{chapters_of}
-use Rattle.status_report.specs.declared.table.ModuleIn.{ModuleIn}
-use Rattle.proof_manager.specs.Judging.{Answer, and_then, judged}
-use Rattle.proof_manager.specs.Reading.{modules_fault, resolved, checked, read_with, read_of, load_fault, as_outcome, reading}
-use Rattle.proof_manager.specs.Told.{ModulesTold, Tells}
-use Rattle.proof_manager.specs.Causes.{Answers, ReadsAll, Loads}
-use Rattle.proof_manager.proofs.Loaded.{names-apart}
+use Rattle.proof_manager.specs.declared.load.Checked.{Checked}
+use Rattle.proof_manager.specs.Reading.{Answer, and_then, modules_fault, resolved, checked, read_of, load_fault, as_outcome, reading}
+use Rattle.proof_manager.specs.Causes.{Answers, Reads, read_in}
 
 -- ---- names
 
@@ -49,53 +43,50 @@ first-fault ms front n e h f = ap (λ o. resolved o ms) h ∙ ap (λ ns. and_the
 
 -- ---- what is read
 
-pub stops-reading : (ms : List Module) (r : Answer (List ModuleIn)) (e : ScopeFault) → IsErrAnd r (λ x. x ≡ e) → Answers {T = Table} (λ s. s) (Err e) (checked ms) → ReadsAll r ms
+-- the names have a fault, and so has what is read
+pub reading-stops : (ms : List Module) (r : Answer Checked) (e : ScopeFault) → IsErrAnd r (λ x. x ≡ e) → Answers {T = Table} (λ s. s) (Err e) (checked ms) → Answers read_in r (read_of ms)
 unfolding read_of
-stops-reading ms (Ok js) e is h = absurd is
-stops-reading ms (Err x) e is h = subst (λ y. ReadsAll (Err y) ms) (sym is) (same e h)
+reading-stops ms (Ok c) e is h = absurd is
+reading-stops ms (Err x) e is h = subst (λ y. Answers {T = Checked} read_in (Err y) (read_of ms)) (sym is) (same e h)
   where
-    same : (y : ScopeFault) → Answers {T = Table} (λ s. s) (Err y) (checked ms) → ReadsAll (Err y) ms
+    same : (y : ScopeFault) → Answers {T = Table} (λ s. s) (Err y) (checked ms) → Answers {T = Checked} read_in (Err y) (read_of ms)
     same fault.Memory h = tt
-    same (fault.At owner place kind) h = ap (λ r. and_then r (read_with ms)) h
+    same (fault.At owner place kind) h = ap (λ r. and_then r (λ t. Ok (record { modules = ms; table = t }))) h
 
-pub reads-judged : (ms : List Module) (t : Table) (r : Answer (List ModuleIn)) → checked ms ≡ Ok t → Tells ModulesTold r (judged t.entries (chapters_of ms t)) → ReadsAll r ms
+pub reading-ends : (ms : List Module) (t : Table) (c : Checked) → checked ms ≡ Ok t → map module_of c.loaded.modules ≡ ms → c.scoped ≡ t → read_of ms ≡ Ok (read_in c)
 unfolding read_of
-reads-judged ms t (Ok js) c h =
-    (record { modules = ms; table = t; judged = h.0 }, ap (λ r. and_then r (read_with ms)) c ∙ ap (λ r. and_then r (λ js. Ok (record { modules = ms; table = t; judged = js }))) h.1, h.2, refl)
-reads-judged ms t (Err fault.Memory) c h = tt
-reads-judged ms t (Err (fault.At owner place kind)) c h =
-    ap (λ r. and_then r (read_with ms)) c ∙ ap (λ r. and_then r (λ js. Ok (record { modules = ms; table = t; judged = js }))) h
+reading-ends ms t c h m s = ap (λ r. and_then r (λ t. Ok (record { modules = ms; table = t }))) h ∙ (λ i. Ok (record { modules = sym m i; table = sym s i }))
 
 -- the loading stops
-pub loading-stops : (told : Option Folder) (root : Bytes) (r : Result (List ModuleIn) LoadFault) (e : LoadFault) → IsErrAnd r (λ x. x ≡ e)
-    → shelf.WhereTold told (λ folder. shelf.Ends {T = Loaded} (λ loaded. loaded.modules) (Err e) (loading None folder root)) → Loads r told root
+pub loading-stops : (held : Option Folder) (given : Option Bytes) (root : Bytes) (r : Result Checked LoadFault) (e : LoadFault) → IsErrAnd r (λ x. x ≡ e)
+    → shelf.WhereTold held (λ folder. shelf.Ends {T = Loaded} (λ loaded. loaded.modules) (Err e) (loading given folder root)) → Reads r held given root
 unfolding reading
-loading-stops told root (Ok o) e is h = absurd is
-loading-stops told root (Err x) e is h = subst (λ y. Loads (Err y) told root) (sym is) (same told e h)
+loading-stops held given root (Ok o) e is h = absurd is
+loading-stops held given root (Err x) e is h = subst (λ y. Reads (Err y) held given root) (sym is) (same held e h)
   where
-    same : (told : Option Folder) (y : LoadFault) → shelf.WhereTold told (λ folder. shelf.Ends {T = Loaded} (λ loaded. loaded.modules) (Err y) (loading None folder root)) → Loads (Err y) told root
+    same : (held : Option Folder) (y : LoadFault) → shelf.WhereTold held (λ folder. shelf.Ends {T = Loaded} (λ loaded. loaded.modules) (Err y) (loading given folder root)) → Reads (Err y) held given root
     same None (load.NotFound name) h = tt
     same None (load.Refused owner place kind) h = tt
     same (Some folder) (load.NotFound name) h = ap (λ r. followed r (λ ms. as_outcome (read_of (map module_of ms)))) h
     same (Some folder) (load.Refused owner place kind) h = ap (λ r. followed r (λ ms. as_outcome (read_of (map module_of ms)))) h
-    same told load.ReadFault h = tt
-    same told load.Memory h = tt
+    same held load.ReadFault h = tt
+    same held load.Memory h = tt
 
--- the modules are loaded, and their theorems come to these
-pub loading-read : (told : Option Folder) (root : Bytes) (l : Loaded) (js : List ModuleIn) → shelf.WhereTold told (λ folder. shelf.Ends {T = Loaded} (λ loaded. loaded.modules) (Ok l) (loading None folder root))
-    → IsOrdered root l.modules → ReadsAll (Ok js) (map module_of l.modules) → Loads (Ok js) told root
+-- the modules are loaded, and what they say is read
+pub loading-read : (held : Option Folder) (given : Option Bytes) (root : Bytes) (l : Loaded) (c : Checked) → shelf.WhereTold held (λ folder. shelf.Ends {T = Loaded} (λ loaded. loaded.modules) (Ok l) (loading given folder root))
+    → Answers read_in (Ok c) (read_of (map module_of l.modules)) → Reads (Ok c) held given root
 unfolding reading
-loading-read None root l js h o e = tt
-loading-read (Some folder) root l js h o e =
-    (e.0, ap (λ r. followed r (λ ms. as_outcome (read_of (map module_of ms)))) h ∙ ap as_outcome e.1, e.2, subst NamesDiffer (sym e.3) (names-apart root l.modules o))
+loading-read None given root l c h e = tt
+loading-read (Some folder) given root l c h e = ap (λ r. followed r (λ ms. as_outcome (read_of (map module_of ms)))) h ∙ ap as_outcome e
 
 -- the modules are loaded, and what they say has a fault
-pub loading-refused : (told : Option Folder) (root : Bytes) (l : Loaded) (e : ScopeFault) (x : LoadFault) → shelf.WhereTold told (λ folder. shelf.Ends {T = Loaded} (λ loaded. loaded.modules) (Ok l) (loading None folder root))
-    → ReadsAll (Err e) (map module_of l.modules) → x ≡ load_fault e → Loads (Err x) told root
+pub loading-refused : (held : Option Folder) (given : Option Bytes) (root : Bytes) (l : Loaded) (e : ScopeFault) (x : LoadFault) → shelf.WhereTold held (λ folder. shelf.Ends {T = Loaded} (λ loaded. loaded.modules) (Ok l) (loading given folder root))
+    → Answers {T = Checked} read_in (Err e) (read_of (map module_of l.modules)) → x ≡ load_fault e → Reads (Err x) held given root
 unfolding reading
-loading-refused told root l e x h a is = subst (λ y. Loads (Err y) told root) (sym is) (same told e h a)
+loading-refused held given root l e x h a is = subst (λ y. Reads (Err y) held given root) (sym is) (same held e h a)
   where
-    same : (told : Option Folder) (e : ScopeFault) → shelf.WhereTold told (λ folder. shelf.Ends {T = Loaded} (λ loaded. loaded.modules) (Ok l) (loading None folder root)) → ReadsAll (Err e) (map module_of l.modules) → Loads (Err (load_fault e)) told root
-    same told fault.Memory h a = tt
+    same : (held : Option Folder) (e : ScopeFault) → shelf.WhereTold held (λ folder. shelf.Ends {T = Loaded} (λ loaded. loaded.modules) (Ok l) (loading given folder root)) → Answers {T = Checked} read_in (Err e) (read_of (map module_of l.modules))
+        → Reads (Err (load_fault e)) held given root
+    same held fault.Memory h a = tt
     same None (fault.At owner place kind) h a = tt
     same (Some folder) (fault.At owner place kind) h a = ap (λ r. followed r (λ ms. as_outcome (read_of (map module_of ms)))) h ∙ ap as_outcome a

@@ -1,39 +1,42 @@
 -- Each status of a run has its cause.
-use Rattle.std.specs.Prelude.{◌≡◌, ℕ, ◌≤◌, ◌<◌, Bool, true, false, List, [], ◌∷◌, Option, None, Some, IsSome, Result, Ok, Err, length, map, take}
-use Rattle.std.specs.List.{list_all}
+use Rattle.std.specs.Prelude.{◌≡◌, ℕ, ◌≤◌, ◌<◌, Bool, true, false, List, [], ◌∷◌, Option, None, Some, Result, Ok, Err, length, map, take, string_bytes}
+use Rattle.std.specs.declared.string.String.{String}
+use Rattle.std.specs.declared.alloc.Global.{Global}
 use Rattle.tla_io.specs.Causes.{Rose}
 use Rattle.tla_io.specs.Told.{Bytes, Folder, with_more}
 use Rattle.tla_ast.specs.declared.fault.ScopeFault.TheVariants as fault
-use Rattle.plain_syntax.specs.Plain.{Module}
 use Rattle.module_shelf.specs.declared.fault.LoadFault.{LoadFault}
 use Rattle.module_shelf.specs.declared.fault.LoadFault.TheVariants as load
+use Rattle.plain_syntax.specs.Syntax.{module_of}
 use Rattle.core_expr.specs.declared.canon.Canon.{Canon}
 use Rattle.seq_calculus.specs.Calculus.{Der}
 use Rattle.valuation.specs.Truth.{Falsifies, by_number}
 use Rattle.propositional_laws.specs.Formulas.{all_connectives, is_propositional_canon}
 use Rattle.propositional_laws.specs.Valuations.{IsValid}
+use Rattle.propositional_laws.specs.Laws.{HasTurns}
 use Rattle.leaf_prover.specs.declared.answer.Answer.TheVariants.{Saturated}
-use Rattle.leaf_prover.specs.Answers.{turn_limit, answer, is_proved}
+use Rattle.leaf_prover.specs.Forms.{is_form}
+use Rattle.leaf_prover.specs.Answers.{answer, is_proved}
 use Rattle.leaf_prover.specs.Laws as laws
-use Rattle.proof_contexts.specs.Statuses as statuses
 use Rattle.name_places.specs.Places.{NamesDiffer}
 use Rattle.theorem_leaves.specs.Chapters.{chapters_of}
 use Rattle.usable_facts.specs.Definitions.{definitions_of}
 use Rattle.usable_facts.specs.Theorems.{all_theorems}
 use Rattle.proof_assembly.specs.Laws.{EachDerives}
 use Rattle.status_report.specs.declared.table.ModuleIn.{ModuleIn}
-use Rattle.status_report.specs.declared.table.Style.TheVariants.{Plain}
-use Rattle.status_report.specs.Report.{report_text, statuses_of, has_memory_leaf}
+use Rattle.status_report.specs.declared.table.Style.{Style}
+use Rattle.status_report.specs.Report.{statuses_of, has_memory_leaf}
 use Rattle.leaf_forms.specs.Leaves.{OfChapters}
-use Rattle.tla_ast.specs.declared.unit.Module.{Module as source_module}
-use Rattle.plain_syntax.specs.Syntax.{module_of}
-use Rattle.symbol_table.specs.Scoped.{Table}
-use Rattle.module_shelf.specs.Loading.{loading}
-use Rattle.proof_manager.specs.Judging.{Answer}
-use Rattle.proof_manager.specs.Told.{ModulesTold}
-use Rattle.proof_manager.specs.Reading.{Read, read_of, reading, checked}
+use Rattle.command_words.specs.Requests.{Asked, IsAsked, Unlawful}
+use Rattle.proof_manager.specs.Reading.{Answer, Read, reading}
+use Rattle.proof_manager.specs.Runs.{given_for, reading_for, IsRead, defined, told, style_for, text_of, all_hold}
+use Rattle.proof_manager.specs.declared.load.Checked.{Checked}
 use Rattle.proof_manager.specs.declared.status.Status.{Status}
 use Rattle.proof_manager.specs.declared.status.Status.TheVariants as status
+
+-- the texts of words
+abbrev pub texts : List (String Global) → List Bytes
+texts = map string_bytes
 
 -- a fact on what is told, where it is
 abbrev pub WhereTold : {T : Type 0} → Option T → (T → Type 0) → Type 0
@@ -51,10 +54,15 @@ SinkCause status.WriteFault before now = (before ≤ now) × Rose before now
 SinkCause _ before now = now ≡ before
 
 -- the words are unlawful exactly where the status says so, want of memory aside
-abbrev pub WordsCause : Status → Option Bytes → Type 0
-WordsCause status.Words root = root ≡ None
-WordsCause status.Memory root = Unit {0}
-WordsCause _ root = IsSome root
+abbrev pub WordsCause : Status → List Bytes → Type 0
+WordsCause status.Words words = Unlawful words
+WordsCause status.Memory words = Unit {0}
+WordsCause _ words = (a : Asked) × IsAsked words a
+
+-- the status is not that of unlawful words
+abbrev pub IsPastWords : Status → Type 0
+IsPastWords status.Words = ⊥
+IsPastWords _ = Unit {0}
 
 -- after unlawful words the shelf was not called
 abbrev pub IsUntouched : {S : Type 0} → Status → S → S → Type 0
@@ -69,90 +77,89 @@ IsUnwritten status.MemoryLeaf old new = Unit {0}
 IsUnwritten status.WriteFault old new = Unit {0}
 IsUnwritten _ old new = new ≡ old
 
--- the modules of the root are read, and their theorems come to these
-abbrev pub IsRead : Folder → Bytes → Read → Type 0
-IsRead folder root r = reading folder root ≡ Ok r
-
--- the one-worker report
-abbrev pub report_of : List ModuleIn → Bytes
-report_of ms = report_text Plain ms
-
--- every theorem is reported proved
-abbrev pub all_hold : List ModuleIn → Bool
-all_hold ms = list_all statuses.is_proved (statuses_of ms)
-
 -- the whole report was taken
-abbrev pub TakesReport : List ModuleIn → Option Bytes → Option Bytes → Type 0
-TakesReport ms old new = new ≡ with_more old (report_of ms)
+abbrev pub TakesReport : Style → List ModuleIn × Bool → Option Bytes → Option Bytes → Type 0
+TakesReport style ms old new = new ≡ with_more old (text_of style ms)
 
 -- a part of the report from its front was taken, and not the whole
-abbrev pub TakesPart : List ModuleIn → Option Bytes → Option Bytes → Type 0
-TakesPart ms old new = (n : ℕ) × (n < length (report_of ms)) × (new ≡ with_more old (take n (report_of ms)))
+abbrev pub TakesPart : Style → List ModuleIn × Bool → Option Bytes → Option Bytes → Type 0
+TakesPart style ms old new = (n : ℕ) × (n < length (text_of style ms)) × (new ≡ with_more old (take n (text_of style ms)))
 
--- What a status says of the modules and of what the sink took. In a report with a Memory leaf, and in a part of a report, leaves whose
--- search found no memory are told as that, and all else is as it is defined; without a Memory leaf the report is the defined one.
-abbrev pub Ends : Status → Folder → Bytes → Option Bytes → Option Bytes → Type 0
-Ends status.AllProved folder root old new = (r : Read) × IsRead folder root r × (all_hold r.judged ≡ true) × TakesReport r.judged old new
-Ends status.NotAll folder root old new = (r : Read) × IsRead folder root r × (all_hold r.judged ≡ false) × TakesReport r.judged old new
-Ends status.MemoryLeaf folder root old new = (r : Read) × IsRead folder root r × (js : List ModuleIn) × ModulesTold js r.judged × (has_memory_leaf js ≡ true) × TakesReport js old new
-Ends status.WriteFault folder root old new = (r : Read) × IsRead folder root r × (js : List ModuleIn) × ModulesTold js r.judged × TakesPart js old new
-Ends (status.NotFound name) folder root old new = reading folder root ≡ Err (load.NotFound name)
-Ends (status.Refused name place kind) folder root old new = reading folder root ≡ Err (load.Refused name place kind)
-Ends status.Words folder root old new = Unit {0}
-Ends status.ReadFault folder root old new = Unit {0}
-Ends status.Memory folder root old new = Unit {0}
+-- What a status says of the modules that are asked for, and of what the sink took. The report of the status AllProved or NotAll is the
+-- defined one. In a report with a Memory leaf, and in a part of a report, the searches of some canonical forms found no memory, and all
+-- else is as it is defined.
+abbrev pub Ends : Status → Asked → Folder → Option Bytes → Option Bytes → Type 0
+Ends status.AllProved a folder old new = (r : Read) × IsRead a folder r × (all_hold (defined a r) ≡ true) × TakesReport (style_for a.demo) (defined a r) old new
+Ends status.NotAll a folder old new = (r : Read) × IsRead a folder r × (all_hold (defined a r) ≡ false) × TakesReport (style_for a.demo) (defined a r) old new
+Ends status.MemoryLeaf a folder old new =
+    (r : Read) × IsRead a folder r × (lost : Canon → Bool) × (has_memory_leaf (told lost a r).0 ≡ true) × TakesReport (style_for a.demo) (told lost a r) old new
+Ends status.WriteFault a folder old new = (r : Read) × IsRead a folder r × (lost : Canon → Bool) × TakesPart (style_for a.demo) (told lost a r) old new
+Ends (status.NotFound name) a folder old new = reading_for a folder ≡ Err (load.NotFound name)
+Ends (status.Refused name place kind) a folder old new = reading_for a folder ≡ Err (load.Refused name place kind)
+Ends status.Words a folder old new = Unit {0}
+Ends status.ReadFault a folder old new = Unit {0}
+Ends status.Memory a folder old new = Unit {0}
 
--- the same, where the words name a module and the shelf tells what it holds
-abbrev pub ReportCause : Status → Option Folder → Option Bytes → Option Bytes → Option Bytes → Type 0
-ReportCause s told root old new = WhereTold root (λ name. WhereTold told (λ folder. Ends s folder name old new))
+-- the same, where the shelf tells what it holds
+abbrev pub EndsTold : Status → Option Folder → Asked → Option Bytes → Option Bytes → Type 0
+EndsTold s held a old new = WhereTold held (λ folder. Ends s a folder old new)
+
+-- a fact on what the words ask for, where they are lawful
+abbrev pub OfAsked : List Bytes → (Asked → Type 0) → Type 0
+OfAsked words P = (a : Asked) → IsAsked words a → P a
 
 -- what is so of what was read, where a report was taken whole or in part
-abbrev pub OfReported : (Read → Type 0) → Status → Folder → Bytes → Type 0
-OfReported P status.AllProved folder root = (r : Read) × IsRead folder root r × P r
-OfReported P status.NotAll folder root = (r : Read) × IsRead folder root r × P r
-OfReported P status.MemoryLeaf folder root = (r : Read) × IsRead folder root r × P r
-OfReported P status.WriteFault folder root = (r : Read) × IsRead folder root r × P r
-OfReported P _ folder root = Unit {0}
+abbrev pub OfReported : (Asked → Read → Type 0) → Status → Asked → Folder → Type 0
+OfReported P status.AllProved a folder = (r : Read) × IsRead a folder r × P a r
+OfReported P status.NotAll a folder = (r : Read) × IsRead a folder r × P a r
+OfReported P status.MemoryLeaf a folder = (r : Read) × IsRead a folder r × P a r
+OfReported P status.WriteFault a folder = (r : Read) × IsRead a folder r × P a r
+OfReported P _ a folder = Unit {0}
 
--- the same, where the words name a module and the shelf tells what it holds
-abbrev pub WhereReported : (Read → Type 0) → Status → Option Folder → Option Bytes → Type 0
-WhereReported P s told root = WhereTold root (λ name. WhereTold told (λ folder. OfReported P s folder name))
+-- the same, where the shelf tells what it holds
+abbrev pub WhereReported : (Asked → Read → Type 0) → Status → Option Folder → Asked → Type 0
+WhereReported P s held a = WhereTold held (λ folder. OfReported P s a folder)
 
 -- ---- what reports mean
 
--- The goal of a leaf that is proved has a derivation from its facts, and no valuation falsifies a propositional leaf that is proved. The
--- values that are printed of a leaf falsify its canonical form: they make its facts true and its goal false.
-pub record IsJustForm (c : Canon) : Type 0 where
-  pub derived : is_proved (answer turn_limit c) ≡ true → Der c.facts (c.goal ∷ [])
-  pub valid : is_propositional_canon c ≡ true → is_proved (answer turn_limit c) ≡ true → IsValid c.facts c.goal
-  pub falsified : (values : List Bool) (turns : ℕ) → answer turn_limit c ≡ Saturated (Some values) turns → Falsifies (by_number values) c.facts c.goal
+-- A leaf that is to be proved has a form that the search takes. Where it is proved, its goal has a derivation from its facts, and where it
+-- is propositional too, no valuation falsifies it. The values that are printed of a leaf falsify its canonical form: they make its facts
+-- true and its goal false.
+pub record IsJustForm (turns : ℕ) (c : Canon) : Type 0 where
+  pub form : is_form c ≡ true
+  pub derived : is_proved (answer turns c) ≡ true → Der c.facts (c.goal ∷ [])
+  pub valid : is_propositional_canon c ≡ true → is_proved (answer turns c) ≡ true → IsValid c.facts c.goal
+  pub falsified : (values : List Bool) (n : ℕ) → answer turns c ≡ Saturated (Some values) n → Falsifies (by_number values) c.facts c.goal
 
 -- Each theorem that is reported proved, whichever searches found memory, has a derivation of its fully expanded fact from the fully
 -- expanded assumptions before it alone. What is reported of its leaves is so of them.
-pub record IsJust (r : Read) : Type 0 where
-  pub derived : (js : List ModuleIn) → ModulesTold js r.judged → EachDerives (definitions_of r.modules r.table) (all_theorems r.modules r.table) (statuses_of js)
-  pub leaves : OfChapters IsJustForm (chapters_of r.modules r.table)
+pub record IsJust (a : Asked) (r : Read) : Type 0 where
+  pub derived : (lost : Canon → Bool) → EachDerives (definitions_of r.modules r.table) (all_theorems r.modules r.table) (statuses_of (told lost a r).0)
+  pub leaves : OfChapters (IsJustForm a.turns) (chapters_of r.modules r.table)
 
-abbrev pub Justified : Status → Option Folder → Option Bytes → Type 0
-Justified = WhereReported IsJust
+-- A propositional canonical form with c connectives is proved exactly where no valuation falsifies it, where the turns are 2 ^ (c + 1) or
+-- more: 100000 turns are enough for 15 connectives, and 1000000 for 18.
+pub record IsDecidedForm (turns : ℕ) (c : Canon) : Type 0 where
+  pub enough : is_propositional_canon c ≡ true → HasTurns c.facts c.goal turns → laws.IsDecided turns c
+  pub usual : is_propositional_canon c ≡ true → turns ≡ 100000 → all_connectives c.facts c.goal ≤ 15 → laws.IsDecided turns c
+  pub most : is_propositional_canon c ≡ true → turns ≡ 1000000 → all_connectives c.facts c.goal ≤ 18 → laws.IsDecided turns c
 
--- Where a leaf's canonical form is propositional and has at most 15 connectives, the turns suffice, and it is proved exactly where no
--- valuation falsifies it.
-abbrev pub IsDecidedForm : Canon → Type 0
-IsDecidedForm c = is_propositional_canon c ≡ true → all_connectives c.facts c.goal ≤ 15 → laws.IsDecided turn_limit c
-
-abbrev pub IsDecided : Read → Type 0
-IsDecided r = OfChapters IsDecidedForm (chapters_of r.modules r.table)
-
-abbrev pub Decided : Status → Option Folder → Option Bytes → Type 0
-Decided = WhereReported IsDecided
+abbrev pub IsDecided : Asked → Read → Type 0
+IsDecided a r = OfChapters (IsDecidedForm a.turns) (chapters_of r.modules r.table)
 
 -- what is read of modules with different names means this
-abbrev pub ReadIsJust : Type 0
-ReadIsJust = (folder : Folder) (root : Bytes) (r : Read) → IsRead folder root r → NamesDiffer r.modules → IsJust r
+abbrev pub ReadsAreJust : Type 0
+ReadsAreJust = (a : Asked) (folder : Folder) (r : Read) → IsRead a folder r → NamesDiffer r.modules → IsJust a r × IsDecided a r
 
-abbrev pub ReadIsDecided : Type 0
-ReadIsDecided = (folder : Folder) (root : Bytes) (r : Read) → IsRead folder root r → IsDecided r
+-- ---- the steps of a run
+
+-- what is read, where the names of the modules differ
+abbrev pub read_in : Checked → Read
+read_in c = record { modules = map module_of c.loaded.modules; table = c.scoped }
+
+pub record IsFine (c : Checked) : Type 0 where
+  pub names : NamesDiffer (read_in c).modules
+  pub chapters : c.chapters ≡ chapters_of (read_in c).modules (read_in c).table
 
 -- the answer's value, seen so, is the one that is defined, and so is a fault, unless memory was not found
 abbrev pub Answers : {T A : Type 0} → (T → A) → Answer T → Answer A → Type 0
@@ -160,31 +167,23 @@ Answers view (Ok a) defined = defined ≡ Ok (view a)
 Answers view (Err fault.Memory) defined = Unit {0}
 Answers view (Err (fault.At owner place kind)) defined = defined ≡ Err (fault.At owner place kind)
 
--- what the reading of modules answers: their theorems come to these, where some searches may have found no memory, or there is this
--- fault, unless memory was not found
-abbrev pub ReadsAll : Answer (List ModuleIn) → List Module → Type 0
-ReadsAll (Ok js) ms = (r : Read) × (read_of ms ≡ Ok r) × ModulesTold js r.judged × (r.modules ≡ ms)
-ReadsAll (Err fault.Memory) ms = Unit {0}
-ReadsAll (Err (fault.At owner place kind)) ms = read_of ms ≡ Err (fault.At owner place kind)
-
 -- how the reading of the modules ends, where the shelf tells what it holds
-abbrev pub Loads : Result (List ModuleIn) LoadFault → Option Folder → Bytes → Type 0
-Loads (Ok js) told root = WhereTold told (λ folder. (r : Read) × IsRead folder root r × ModulesTold js r.judged × NamesDiffer r.modules)
-Loads (Err (load.NotFound name)) told root = WhereTold told (λ folder. reading folder root ≡ Err (load.NotFound name))
-Loads (Err (load.Refused owner place kind)) told root = WhereTold told (λ folder. reading folder root ≡ Err (load.Refused owner place kind))
-Loads (Err load.ReadFault) told root = Unit {0}
-Loads (Err load.Memory) told root = Unit {0}
+abbrev pub Reads : Result Checked LoadFault → Option Folder → Option Bytes → Bytes → Type 0
+Reads (Ok c) held given root = WhereTold held (λ folder. reading given folder root ≡ Ok (read_in c))
+Reads (Err (load.NotFound name)) held given root = WhereTold held (λ folder. reading given folder root ≡ Err (load.NotFound name))
+Reads (Err (load.Refused owner place kind)) held given root = WhereTold held (λ folder. reading given folder root ≡ Err (load.Refused owner place kind))
+Reads (Err load.ReadFault) held given root = Unit {0}
+Reads (Err load.Memory) held given root = Unit {0}
+
+-- the same of what is asked for
+abbrev pub ReadsFor : Result Checked LoadFault → Option Folder → Asked → Type 0
+ReadsFor r held a = Reads r held (given_for a.root a.demo) a.root
 
 -- what the writing of the report leaves
-abbrev pub Writes : Status → List ModuleIn → Option Bytes → Option Bytes → Type 0
-Writes status.AllProved ms old new = (has_memory_leaf ms ≡ false) × (all_hold ms ≡ true) × TakesReport ms old new
-Writes status.NotAll ms old new = (has_memory_leaf ms ≡ false) × (all_hold ms ≡ false) × TakesReport ms old new
-Writes status.MemoryLeaf ms old new = (has_memory_leaf ms ≡ true) × TakesReport ms old new
-Writes status.WriteFault ms old new = TakesPart ms old new
-Writes status.Memory ms old new = Unit {0}
-Writes _ ms old new = ⊥
-
--- Where the modules are loaded and what their names mean is told without a fault, all leaves are answered: no leaf is refused.
-abbrev pub ReadIsAnswered : Type 0
-ReadIsAnswered =
-    (folder : Folder) (root : Bytes) (ms : List source_module) (t : Table) → loading None folder root ≡ Ok ms → checked (map module_of ms) ≡ Ok t → (r : Read) × IsRead folder root r
+abbrev pub Writes : Status → Style → List ModuleIn × Bool → Option Bytes → Option Bytes → Type 0
+Writes status.AllProved style ms old new = (has_memory_leaf ms.0 ≡ false) × (all_hold ms ≡ true) × TakesReport style ms old new
+Writes status.NotAll style ms old new = (has_memory_leaf ms.0 ≡ false) × (all_hold ms ≡ false) × TakesReport style ms old new
+Writes status.MemoryLeaf style ms old new = (has_memory_leaf ms.0 ≡ true) × TakesReport style ms old new
+Writes status.WriteFault style ms old new = TakesPart style ms old new
+Writes status.Memory style ms old new = Unit {0}
+Writes _ style ms old new = ⊥

@@ -1,7 +1,4 @@
-pub mod Words
-pub mod Values
-pub mod Judging
-pub mod Told
 pub mod Reading
+pub mod Runs
 pub mod Status
 pub mod Causes

@@ -1,6 +1,6 @@
--- What is read of modules: what their names mean, and their theorems with what their leaves come to; or the first fault.
+-- What is read of modules: what their names mean; or the first fault.
 use Rattle.std.specs.Prelude.{ℕ, suc, List, [], ◌∷◌, map, take, Option, Some, None, Result, Ok, Err}
-use Rattle.tla_io.specs.Told.{Folder}
+use Rattle.tla_io.specs.Told.{Bytes, Folder}
 use Rattle.tla_ast.specs.declared.fault.Fault.{Fault}
 use Rattle.tla_ast.specs.declared.fault.Fault.TheVariants as step_fault
 use Rattle.tla_ast.specs.declared.fault.ScopeFault.{ScopeFault}
@@ -15,9 +15,15 @@ use Rattle.module_shelf.specs.declared.fault.LoadFault.TheVariants as load
 use Rattle.module_shelf.specs.Loading.{Outcome, followed, loading}
 use Rattle.proof_contexts.specs.Contexts.{given}
 use Rattle.proof_outline.specs.Outline.{outline}
-use Rattle.theorem_leaves.specs.Chapters.{chapters_of}
-use Rattle.status_report.specs.declared.table.ModuleIn.{ModuleIn}
-use Rattle.proof_manager.specs.Judging.{Answer, and_then, judged}
+
+-- a value, or a fault in a module
+abbrev pub Answer : Type 0 → Type 0
+Answer A = Result A ScopeFault
+
+-- what follows from a value, or the fault
+abbrev pub and_then : {A B : Type 0} → Answer A → (A → Answer B) → Answer B
+and_then (Ok a) next = next a
+and_then (Err e) next = Err e
 
 -- ---- step names
 
@@ -59,20 +65,16 @@ resolved (Some f) ms = and_then (resolution (take f.0 ms)) (λ t. Err f.1)
 abbrev pub checked : List Module → Answer Table
 checked ms = resolved (modules_fault ms) ms
 
--- ---- theorems
+-- ---- what is read
 
--- modules, what their names mean, and their theorems with what their leaves come to
+-- modules, and what their names mean
 pub record Read : Type 0 where
   pub modules : List Module
   pub table : Table
-  pub judged : List ModuleIn
 
-abbrev pub read_with : List Module → Table → Answer Read
-read_with ms t = and_then (judged t.entries (chapters_of ms t)) (λ js. Ok (record { modules = ms; table = t; judged = js }))
-
--- what the modules say; or the first fault: of step names or of names, and behind all of these the first leaf that is not answered yet
+-- what the modules say; or the first fault of step names or of names
 unfoldable pub read_of : List Module → Answer Read
-read_of ms = and_then (checked ms) (read_with ms)
+read_of ms = and_then (checked ms) (λ t. Ok (record { modules = ms; table = t }))
 
 -- the same fault as one of the loading
 abbrev pub load_fault : ScopeFault → LoadFault
@@ -83,6 +85,7 @@ abbrev pub as_outcome : {A : Type 0} → Answer A → Outcome A
 as_outcome (Ok a) = Ok a
 as_outcome (Err e) = Err (load_fault e)
 
--- what the modules say that a folder has for a name, or the first fault: one of the loading before all others
-unfoldable pub reading : Folder → Text → Outcome Read
-reading folder root = followed (loading None folder root) (λ ms. as_outcome (read_of (map module_of ms)))
+-- What the modules say that are loaded for a name, or the first fault: one of the loading before all others. The text of the module with
+-- this name is the given one, where there is one, or else what a folder has for the name; the folder has the others.
+unfoldable pub reading : Option Bytes → Folder → Bytes → Outcome Read
+reading given folder root = followed (loading given folder root) (λ ms. as_outcome (read_of (map module_of ms)))

@@ -4,6 +4,12 @@
 #![tactic(auto)]
 
 #[cfg(test)]
+mod case;
+#[cfg(test)]
 mod devices;
 #[cfg(test)]
+mod gates;
+#[cfg(test)]
 mod run;
+#[cfg(test)]
+mod words;

@@ -1,51 +1,13 @@
 //! The top call over devices in memory.
 
+use crate::case::{Case, ran};
 use core_expr::Text;
-use proof_manager::{Status, run};
+use proof_manager::{Through, run};
 use std::alloc::Global;
 use std::process::Abort;
 use std::test::Fail;
+use std::thread::Threads;
 use tla_io::{MemCache, MemShelf, MemSink};
-
-/// One run: the modules of the shelf by name and text, the calls that fail, and the word behind the program's.
-#[derive(Drop)]
-struct Case<'a> {
-    modules: &'a [(&'a str, &'a str)],
-    word: &'a str,
-    shelf_fails: &'a [u64],
-    room: u64,
-}
-
-/// What a run leaves: its status and the bytes that the sink took.
-#[derive(Drop)]
-struct Outcome {
-    status: Status,
-    taken: Vec<u8>,
-}
-
-fn ran(alloc: Global, case: &Case) -> Result<Outcome, Fail> {
-    let mut words = Vec::new(alloc);
-    words.push(String::from_str(alloc, "tla_prove")?)?;
-    words.push(String::from_str(alloc, case.word)?)?;
-    let mut entries = Vec::new(alloc);
-    for (name, text) in case.modules {
-        let name = Text::of(alloc, name.as_bytes())?;
-        entries.push((name, Vec::from_slice(alloc, text.as_bytes())?))?;
-    }
-    let mut shelf = MemShelf::new(entries, Vec::from_slice(alloc, case.shelf_fails)?);
-    let mut cache = MemCache::new(Text::of(alloc, b"f")?, Vec::new(alloc), Vec::new(alloc));
-    let mut sink = MemSink::new(alloc, case.room, 7, Vec::new(alloc))?;
-    let status = run(alloc, &words, &mut shelf, &mut cache, &mut sink);
-    let taken = Vec::from_slice(alloc, sink.taken())?;
-    Ok(Outcome { status, taken })
-}
-
-/// A run's exit status, what it wrote and what it says on standard error.
-fn shown(alloc: Global, case: &Case) -> Result<(u8, Vec<u8>, Text), Fail> {
-    let ran = ran(alloc, case)?;
-    let text = ran.status.text(alloc)?;
-    Ok((ran.status.code(), ran.taken, text))
-}
 
 const IMPLIES_ITSELF: &str = "---- MODULE M ----\nCONSTANT A\nTHEOREM T == A => A OBVIOUS\n====\n";
 
@@ -53,8 +15,8 @@ const THREE: &str =
     "---- MODULE M ----\nCONSTANTS A, B, C\nTHEOREM T == C => A \\/ C OBVIOUS\nTHEOREM U == C /\\ A => B OBVIOUS\n  THEOREM FALSE OBVIOUS\n====";
 
 /// What a run on these modules, of which M is the root, writes or says on standard error, with its status.
-fn compare_modules(
-    rt: &impl Abort,
+fn compare_modules<R: Abort + Threads + Sync>(
+    rt: &R,
     alloc: Global,
     what: &str,
     modules: &[(&str, &str)],
@@ -63,20 +25,24 @@ fn compare_modules(
 ) -> Result<(), Fail> {
     let case = Case {
         modules,
-        word: "M",
+        words: &["M"],
         shelf_fails: &[],
         room: 400,
     };
-    let (got_code, taken, said) = shown(alloc, &case)?;
-    let (taken_want, said_want) = if code < 2 { (want, "") } else { ("", want) };
-    assert_eq!(rt; got_code, code, "{what}");
-    assert_eq!(rt; taken.as_slice(), taken_want.as_bytes(), "{what}");
-    assert_eq!(rt; said.bytes(), said_want.as_bytes(), "{what}");
+    let got = ran(rt, alloc, &Through, &case)?;
+    let (taken, said) = if code < 2 { (want, "") } else { ("", want) };
+    assert_eq!(rt; got.code, code, "{what}");
+    assert_eq!(rt; got.taken.as_slice(), taken.as_bytes(), "{what}");
+    assert_eq!(rt; got.said.bytes(), said.as_bytes(), "{what}");
     Ok(())
 }
 
 /// The same of texts under the name M.
-fn compare(rt: &impl Abort, alloc: Global, table: &[(&str, &str, u8, &str)]) -> Result<(), Fail> {
+fn compare<R: Abort + Threads + Sync>(
+    rt: &R,
+    alloc: Global,
+    table: &[(&str, &str, u8, &str)],
+) -> Result<(), Fail> {
     for (what, text, code, want) in table {
         compare_modules(rt, alloc, what, &[("M", *text)], *code, want)?;
     }
@@ -350,14 +316,14 @@ fn devices_and_words_decide(rt: HostRuntime) -> Result<(), Fail> {
     for (word, shelf_fails, room, code, taken, text) in &table {
         let case = Case {
             modules: &[("M", IMPLIES_ITSELF)],
-            word: *word,
+            words: &[*word],
             shelf_fails: *shelf_fails,
             room: *room,
         };
-        let (got_code, got_taken, got_text) = shown(rt.alloc(), &case)?;
-        assert_eq!(rt; got_code, *code, "{word}");
-        assert_eq!(rt; got_taken.as_slice(), *taken, "{word}");
-        assert_eq!(rt; got_text.bytes(), *text, "{word}");
+        let got = ran(&rt, rt.alloc(), &Through, &case)?;
+        assert_eq!(rt; got.code, *code, "{word}");
+        assert_eq!(rt; got.taken.as_slice(), *taken, "{word}");
+        assert_eq!(rt; got.said.bytes(), *text, "{word}");
     }
     Ok(())
 }
@@ -371,7 +337,9 @@ fn other_numbers_of_words_are_unlawful(rt: HostRuntime) -> Result<(), Fail> {
             let mut shelf = MemShelf::new(Vec::new(alloc), Vec::new(alloc));
             let mut cache = MemCache::new(Text::of(alloc, b"f")?, Vec::new(alloc), Vec::new(alloc));
             let mut sink = MemSink::new(alloc, 10, 10, Vec::new(alloc))?;
-            let status = run(alloc, &words, &mut shelf, &mut cache, &mut sink);
+            let status = run(
+                &rt, alloc, &words, &mut shelf, &mut cache, &mut sink, &Through,
+            );
             assert_eq!(rt; status.code(), 2);
         }
         words.push(String::from_str(alloc, "M")?)?;

@@ -3,7 +3,7 @@ use Rattle.std.specs.Prelude.{Some, Err}
 use Rattle.plain_syntax.specs.Syntax.{module_of}
 use Rattle.module_scope.specs.Resolution.{resolution}
 use Rattle.symbol_table.specs.Scoped.{Table}
-use Rattle.proof_manager.specs.Judging.{and_then}
+use Rattle.proof_manager.specs.Reading.{and_then}
 use Rattle.proof_manager.specs.Reading.{modules_fault, checked}
 use Rattle.proof_manager.specs.Causes.{Answers}
 use Rattle.proof_manager.proofs.Readings.{names-stop, answers-fault, map-take, first-fault}

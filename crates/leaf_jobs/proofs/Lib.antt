@@ -1,0 +1,6 @@
+mod Meets
+mod Order
+mod Fronts
+mod FrontStatuses
+mod Walks
+mod Pairs

@@ -1,0 +1,83 @@
+-- What a run reports of what was read.
+use Rattle.std.specs.Prelude.{◌≡◌, ℕ, ◌≤◌, Bool, not, ◌&&◌, List, Option, None, Some, option_map, Ok}
+use Rattle.std.specs.List.{list_all}
+use Rattle.tla_io.specs.Told.{Bytes, Folder}
+use Rattle.core_expr.specs.declared.canon.Canon.{Canon}
+use Rattle.leaf_prover.specs.declared.answer.Answer.{Answer as Searched}
+use Rattle.leaf_prover.specs.declared.answer.Answer.TheVariants.{Proved, Saturated, Spent}
+use Rattle.leaf_prover.specs.Provers.{answered}
+use Rattle.theorem_leaves.specs.Chapters.{chapters_of}
+use Rattle.proof_contexts.specs.Statuses.{is_proved}
+use Rattle.status_report.specs.declared.table.ModuleIn.{ModuleIn}
+use Rattle.status_report.specs.declared.table.Style.{Style}
+use Rattle.status_report.specs.declared.table.Style.TheVariants.{Plain, Brief}
+use Rattle.status_report.specs.Report.{report_text, statuses_of}
+use Rattle.leaf_jobs.specs.Came.{Came, with_lost}
+use Rattle.leaf_jobs.specs.Came.Came.{proved, saturated, spent}
+use Rattle.leaf_jobs.specs.Judging.{judged}
+use Rattle.leaf_jobs.specs.Stopping.{reported}
+use Rattle.demo_maker.specs.Demo.{demo_text}
+use Rattle.command_words.specs.Requests.{Asked}
+use Rattle.module_shelf.specs.Loading.{Outcome}
+use Rattle.proof_manager.specs.Reading.{Read, reading}
+
+-- ---- what is read
+
+-- the text of a demonstration, where one is asked for
+abbrev pub given_for : Bytes → Option ℕ → Option Bytes
+given_for root demo = option_map (demo_text root) demo
+
+-- what is read where this is asked for
+abbrev pub reading_for : Asked → Folder → Outcome Read
+reading_for a folder = reading (given_for a.root a.demo) folder a.root
+
+-- the modules that are asked for are read as this
+abbrev pub IsRead : Asked → Folder → Read → Type 0
+IsRead a folder r = reading_for a folder ≡ Ok r
+
+-- ---- what its leaves come to
+
+-- an answer of the search, as what a job comes to
+abbrev pub as_came : Searched → Came
+as_came (Proved turns) = proved turns
+as_came (Saturated values turns) = saturated values turns
+as_came (Spent turns) = spent turns
+
+-- what the written search comes to on a canonical form, with at most so many turns
+abbrev pub came : ℕ → Canon → Came
+came turns c = as_came (answered turns c)
+
+-- The modules with what their leaves come to by the written search, and whether the report is stopped: with `--stop` up to the first
+-- failed leaf. No number of workers occurs in it.
+abbrev pub defined : Asked → Read → List ModuleIn × Bool
+defined a r = reported a.stop (judged (came a.turns) r.table.entries (chapters_of r.modules r.table))
+
+-- the same, where the searches of some canonical forms found no memory
+abbrev pub told : (Canon → Bool) → Asked → Read → List ModuleIn × Bool
+told lost a r = reported a.stop (judged (with_lost lost (came a.turns)) r.table.entries (chapters_of r.modules r.table))
+
+-- ---- the report
+
+-- of a demonstration the last line alone is written
+abbrev pub style_for : Option ℕ → Style
+style_for None = Plain
+style_for (Some n) = Brief
+
+abbrev pub text_of : Style → List ModuleIn × Bool → Bytes
+text_of style ms = report_text style ms.1 ms.0
+
+-- the report is not stopped, and every theorem is reported proved
+abbrev pub all_hold : List ModuleIn × Bool → Bool
+all_hold ms = not ms.1 && list_all is_proved (statuses_of ms.0)
+
+-- ---- what is asked for
+
+abbrev pub IsDemoSize : Option ℕ → Type 0
+IsDemoSize None = Unit {0}
+IsDemoSize (Some n) = (1 ≤ n) × (n ≤ 1000)
+
+-- the numbers that lawful words may have
+pub record InRange (a : Asked) : Type 0 where
+  pub turns : (1 ≤ a.turns) × (a.turns ≤ 1000000)
+  pub workers : (1 ≤ a.workers) × (a.workers ≤ 64)
+  pub demo : IsDemoSize a.demo
