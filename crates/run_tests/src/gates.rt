@@ -127,6 +127,31 @@ fn all_jobs_are_in_at_once(rt: HostRuntime) -> Result<(), Fail> {
     Ok(())
 }
 
+/// A demonstration of seven jobs, of which this one is held till all others were entered.
+fn hold_one<R: Abort + Threads + Wait + Sync>(
+    rt: &R,
+    alloc: Global,
+    job: usize,
+    workers: &str,
+) -> Result<(), Fail> {
+    let mut waits_for = [0u64; 7];
+    if let Some(awaited) = waits_for.get_mut(job) {
+        *awaited = 127;
+    }
+    let words = ["M", "--demo", "7", "--workers", workers];
+    compare(rt, alloc, &waits_for, &words, 0, "7 theorems, 7 proved\n")
+}
+
+#[test]
+fn each_job_may_be_the_last(rt: HostRuntime) -> Result<(), Fail> {
+    for workers in ["2", "8", "64"] {
+        for job in 0..7 {
+            hold_one(&rt, rt.alloc(), job, workers)?;
+        }
+    }
+    Ok(())
+}
+
 #[test]
 fn an_earlier_failure_that_comes_later_ends_the_report(rt: HostRuntime) -> Result<(), Fail> {
     // jobs 9 and 19 fail, and 9 is held till 19 was entered

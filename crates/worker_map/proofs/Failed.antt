@@ -1,5 +1,5 @@
 -- Noted jobs are among the drawn ones.
-use Rattle.std.proofs.Common.{◌≡◌, ℕ, ◌≤◌, ◌<◌, Bool, true, false, List, [], ◌∷◌, ◌++◌, Option, sym, refl, ap, ◌∙◌, arith, cond}
+use Rattle.std.proofs.Common.{◌≡◌, ℕ, ◌≤◌, ◌<◌, Bool, true, false, List, [], ◌∷◌, ◌++◌, Option, sym, refl, ap, ◌∙◌, arith, cond, append_assoc, append-nil}
 use Rattle.std.specs.List.{AllByRecursion, flat_map}
 use Rattle.claim_board.specs.Views.{times}
 use Rattle.proof_cache.specs.declared.verdict.Verdict.{Verdict}
@@ -23,16 +23,8 @@ new_job true n vs h = none_of n (flat_map noted_by vs) (noted_below n vs h)
 new_job false n vs h = refl
 
 flat_snoc : (vs : List (ℕ × Option Verdict)) (v : ℕ × Option Verdict) → flat_map noted_by (vs ++ v ∷ []) ≡ (flat_map noted_by vs ++ noted_by v)
-flat_snoc [] v = append_nil (noted_by v)
-  where
-    append_nil : (xs : List ℕ) → xs ++ [] ≡ xs
-    append_nil [] = refl
-    append_nil (x ∷ xs) = ap (λ t. x ∷ t) (append_nil xs)
-flat_snoc (u ∷ us) v = ap (λ t. noted_by u ++ t) (flat_snoc us v) ∙ sym (assoc (noted_by u) (flat_map noted_by us) (noted_by v))
-  where
-    assoc : (xs ys zs : List ℕ) → ((xs ++ ys) ++ zs) ≡ (xs ++ (ys ++ zs))
-    assoc [] ys zs = refl
-    assoc (x ∷ xs) ys zs = ap (λ t. x ∷ t) (assoc xs ys zs)
+flat_snoc [] v = append-nil (noted_by v)
+flat_snoc (u ∷ us) v = ap (λ t. noted_by u ++ t) (flat_snoc us v) ∙ sym (append_assoc (noted_by u) (flat_map noted_by us) (noted_by v))
 
 pub noted_snoc : (stop : Bool) (vs : List (ℕ × Option Verdict)) (v : ℕ × Option Verdict) → noted_of stop (vs ++ v ∷ []) ≡ noted_of stop vs ++ cond stop (noted_by v) []
 noted_snoc true vs v = flat_snoc vs v

@@ -1,5 +1,5 @@
 -- What is collected at the start, and what it comes to at the end.
-use Rattle.std.proofs.Common.{◌≡◌, ℕ, zero, suc, ◌+◌, ◌-◌, ◌≤◌, ◌<◌, ◌^◌, inl, inr, Bool, true, false, List, [], ◌∷◌, ◌++◌, length, take, Option, Some, None, sym, ap, subst, ◌∙◌, arith, refl}
+use Rattle.std.proofs.Common.{◌≡◌, ℕ, zero, suc, ◌+◌, ◌-◌, ◌≤◌, ◌<◌, ◌^◌, inl, inr, Bool, true, false, List, [], ◌∷◌, ◌++◌, length, take, Option, Some, None, sym, ap, subst, ◌∙◌, arith, refl, append-nil}
 use Rattle.std.specs.Prelude.{slice_get, nat_lt}
 use Rattle.std.specs.List.{AllByRecursion, AllZip, flat_map}
 use Rattle.std.specs.Global.{Vec}
@@ -18,12 +18,11 @@ use Rattle.proof_cache.specs.declared.verdict.Verdict.{Verdict}
 use Rattle.worker_map.specs.declared.work.Worker.{Worker}
 use Rattle.worker_map.specs.declared.collect.Lists.{Lists}
 use Rattle.worker_map.specs.Answers.{IsOf, has_failed, noted_by}
-use Rattle.worker_map.specs.Crew.{HasDone, Finishes, jobs_in, noted_of, IsBehind, SkipsAfter}
-use Rattle.worker_map.specs.Desks.{IsNew, with_room}
+use Rattle.worker_map.specs.Crew.{HasDone, Finishes, with_room, jobs_in, noted_of, IsBehind, SkipsAfter}
+use Rattle.worker_map.specs.Desks.{IsNew}
 use Rattle.worker_map.specs.Settled.{SkipsBehind, Pending, Fits, FitsAll, lists_of}
 use Rattle.worker_map.specs.Collected.{Collected, IsDone, shown, noted_all}
 use Rattle.worker_map.specs.Stops.{AllGiven, AllSkipBehind, IsCut, IsLeast, IsNoted, HasTaken, SkipsBehindLeast}
-use Rattle.worker_map.proofs.Joins.{append_nil}
 use Rattle.worker_map.proofs.Settles.{failed_noted, fails_most}
 use Rattle.worker_map.proofs.Skips.{skips_behind}
 
@@ -66,12 +65,6 @@ all_done stop answers board (v ∷ vs) (w ∷ ws) h z = (
   },
   all_done stop answers board vs ws h.1 z.1,
 )
-
-pub zip_length : {X Y : Type 0} (R : X → Y → Type 0) (xs : List X) (ys : List Y) → AllZip R xs ys → length xs ≡ length ys
-zip_length R [] [] z = refl
-zip_length R (x ∷ xs) [] z = absurd z
-zip_length R [] (y ∷ ys) z = absurd z
-zip_length R (x ∷ xs) (y ∷ ys) z = ap suc (zip_length R xs ys z.1)
 
 pub take_front : {X : Type 0} (n : ℕ) (xs ys : List X) → length xs ≡ n → take n (xs ++ ys) ≡ xs
 take_front n [] ys e = let none : n ≡ 0 = sym e in ap (λ k. take k ys) none
@@ -167,14 +160,8 @@ lone noted lists [] one is rising stops same = tt
 lone noted lists (l ∷ m ∷ ls) one is rising stops same = absurd (let n = ap length is in omega arith)
 lone noted lists (l ∷ []) one is rising stops same =
     let up : IsRising (jobs_in l.items) = (subst (AllByRecursion IsRising) (sym is) rising).0 in
-    let all : noted ≡ flat_map noted_by l.items = same ∙ append_nil (flat_map noted_by l.items) in
+    let all : noted ≡ flat_map noted_by l.items = same ∙ append-nil (flat_map noted_by l.items) in
     (subst (λ ns. AllByRecursion (SkipsBehind ns) l.items) (sym all) (skips_behind l.items up stops.0), tt)
-
-once_most : (x n : ℕ) → once_below x n ≤ 1
-once_most x n = grind arith
-
-once_is : (x n : ℕ) → x < n → once_below x n ≡ 1
-once_is x n lt = grind arith
 
 get_within : {X : Type 0} (xs : List X) (k : ℕ) → k < length xs → (v : X) × (slice_get xs k ≡ Some v)
 get_within [] k lt = absurd (omega arith)
@@ -198,7 +185,7 @@ module _ (stop : Bool) (answers : ℕ → Verdict → Type 0) (board : Board) (s
       (λ x.
       let e = ap (times x) (g.noted ∙ ap (λ b. noted_all b all.verdicts.items) s) in
       let c = counts x in
-      let m = once_most x jobs in
+      let m : once_below x jobs ≤ 1 = grind arith in
       omega arith))
       (λ s one.
       lone (view_of seat).noted (view_of seat).taken all.verdicts.items one (g.jobs ∙ sym g.taken) (subst (AllByRecursion IsRising) (sym g.taken) g.rising) (g.stops s)
@@ -207,7 +194,8 @@ module _ (stop : Bool) (answers : ℕ → Verdict → Type 0) (board : Board) (s
   pub pending : (table : List (Option Verdict)) → length table ≡ jobs → Pending stop answers (view_of seat) (λ x. times_all x (lists_of all.verdicts.items)) table
   pending table len j v at none =
       let lt = slice_get_within table j v at in
-      let one = once_is j jobs (omega arith) in
+      let below : j < jobs = omega arith in
+      let one : once_below j jobs ≡ 1 = grind arith in
       let c = counts j in
       absurd (omega arith)
 

@@ -1,5 +1,5 @@
 -- One worker's lists are taken in.
-use Rattle.std.proofs.Common.{◌≡◌, ℕ, ◌+◌, ◌≤◌, Bool, true, false, List, [], ◌∷◌, ◌++◌, Option, sym, refl, ap, ◌∙◌, arith, subst}
+use Rattle.std.proofs.Common.{◌≡◌, ℕ, ◌+◌, ◌≤◌, Bool, true, false, List, [], ◌∷◌, ◌++◌, Option, sym, refl, ap, ◌∙◌, arith, subst, append_assoc, append-nil}
 use Rattle.std.specs.Prelude.{◌||◌}
 use Rattle.std.proofs.lemmas.List.{map-append}
 use Rattle.std.specs.List.{AllByRecursion}
@@ -25,17 +25,9 @@ or_true : (a b : Bool) → b ≡ true → (a || b) ≡ true
 or_true true b e = refl
 or_true false b e = e
 
-assoc : (xs ys zs : List ℕ) → ((xs ++ ys) ++ zs) ≡ (xs ++ (ys ++ zs))
-assoc [] ys zs = refl
-assoc (x ∷ xs) ys zs = ap (λ t. x ∷ t) (assoc xs ys zs)
-
-pub append_nil : (xs : List ℕ) → xs ++ [] ≡ xs
-append_nil [] = refl
-append_nil (x ∷ xs) = ap (λ t. x ∷ t) (append_nil xs)
-
 noted_last : (stop : Bool) (ls : List (Vec (ℕ × Option Verdict))) (l : Vec (ℕ × Option Verdict)) → noted_all stop (ls ++ l ∷ []) ≡ (noted_all stop ls ++ noted_of stop l.items)
-noted_last stop [] l = append_nil (noted_of stop l.items)
-noted_last stop (k ∷ ks) l = ap (λ t. noted_of stop k.items ++ t) (noted_last stop ks l) ∙ sym (assoc (noted_of stop k.items) (noted_all stop ks) (noted_of stop l.items))
+noted_last stop [] l = append-nil (noted_of stop l.items)
+noted_last stop (k ∷ ks) l = ap (λ t. noted_of stop k.items ++ t) (noted_last stop ks l) ∙ sym (append_assoc (noted_of stop k.items) (noted_all stop ks) (noted_of stop l.items))
 
 abbrev AllBehind : Bool → ℕ → Vec (ℕ × Option Verdict) → Type 0
 AllBehind stop seen l = AllByRecursion (IsBehind stop seen) l.items

@@ -4,17 +4,17 @@ use Rattle.claim_board.proofs.Lists.{rising_snoc}
 use Rattle.std.specs.List.{AllByRecursion}
 use Rattle.claim_board.specs.Views.{IsRising}
 
+pub at_least : (x : ℕ) (ys : List ℕ) → AllByRecursion (λ y. x < y) ys → AllByRecursion (λ y. x ≤ y) ys
+at_least x [] h = tt
+at_least x (y ∷ ys) h = ((let lt : x < y = h.0 in omega arith), at_least x ys h.1)
+
 rising_from : (low n : ℕ) (xs : List ℕ) → IsRising xs → AllByRecursion (λ x. low ≤ x) xs → AllByRecursion (λ x. x < n) xs → low ≤ n → low + length xs ≤ n
 rising_from low n [] rising above below le = omega arith
 rising_from low n (x ∷ xs) rising above below le =
     let lt : x < n = below.0 in
     let ge : low ≤ x = above.0 in
-    let rest : suc x + length xs ≤ n = rising_from (suc x) n xs rising.1 (higher x xs rising.0) below.1 (omega arith) in
+    let rest : suc x + length xs ≤ n = rising_from (suc x) n xs rising.1 rising.0 below.1 (omega arith) in
     omega arith
-  where
-    higher : (x : ℕ) (xs : List ℕ) → AllByRecursion (λ y. x < y) xs → AllByRecursion (λ y. suc x ≤ y) xs
-    higher x [] h = tt
-    higher x (y ∷ ys) h = ((let lt : x < y = h.0 in omega arith), higher x ys h.1)
 
 pub rising_length : (n : ℕ) (xs : List ℕ) → IsRising xs → AllByRecursion (λ x. x < n) xs → length xs ≤ n
 rising_length n xs rising below =

@@ -62,6 +62,10 @@ fails_cons x e es = by_test (has_failed e.1)
     by_test true = omega arith
     by_test false = omega arith
 
+part : (b : Bool) (n : ℕ) → cond b n 0 ≤ n
+part true n = omega arith
+part false n = omega arith
+
 pub fails_most : (x : ℕ) (es : List (ℕ × Option Verdict)) → fails_at x es ≤ drawn_at x es
 fails_most x [] = omega arith
 fails_most x (e ∷ es) =
@@ -69,10 +73,6 @@ fails_most x (e ∷ es) =
     let here = fails_cons x e es in
     let one = part (has_failed e.1) (one (e.0 == x)) in
     omega arith
-  where
-    part : (b : Bool) (n : ℕ) → cond b n 0 ≤ n
-    part true n = omega arith
-    part false n = omega arith
 
 -- each entry of a list has failed just where its job is noted: noted counts all noted jobs, of which the list's are some, and no job is drawn twice
 pub failed_noted : (noted : ℕ → ℕ) (es : List (ℕ × Option Verdict)) → ((x : ℕ) → fails_at x es ≤ noted x) → ((x : ℕ) → noted x + drawn_at x es ≤ fails_at x es + 1)
@@ -85,10 +85,6 @@ failed_noted noted (e ∷ es) lo hi = (
       (λ x. let h = hi x in let c = fails_cons x e es in let p = part (has_failed e.1) (one (e.0 == x)) in omega arith),
 )
   where
-    part : (b : Bool) (n : ℕ) → cond b n 0 ≤ n
-    part true n = omega arith
-    part false n = omega arith
-
     own : one (e.0 == e.0) ≡ one true
     own = grind arith
 

@@ -7,13 +7,10 @@ use Rattle.proof_cache.specs.declared.verdict.Verdict.{Verdict}
 use Rattle.worker_map.specs.Answers.{has_failed, noted_by}
 use Rattle.worker_map.specs.Crew.{jobs_in, SkipsAfter, NoneUnder}
 use Rattle.worker_map.specs.Settled.{SkipsBehind}
+use Rattle.worker_map.proofs.Rising.{all_snoc, at_least}
 
 abbrev IsSkipped : ℕ × Option Verdict → Type 0
 IsSkipped e = e.1 ≡ None
-
-all_last : (vs : List (ℕ × Option Verdict)) (v : ℕ × Option Verdict) → AllByRecursion IsSkipped vs → IsSkipped v → AllByRecursion IsSkipped (vs ++ v ∷ [])
-all_last [] v h l = (l, tt)
-all_last (u ∷ us) v h l = (h.0, all_last us v h.1 l)
 
 noted_here : (v : ℕ × Option Verdict) (ns : List ℕ) → has_failed v.1 ≡ true → 0 < times v.0 (noted_by v ++ ns)
 noted_here v ns is =
@@ -29,7 +26,7 @@ pub skips_more : (vs : List (ℕ × Option Verdict)) (v : ℕ × Option Verdict)
     → ((k : ℕ) → k < v.0 → 0 < times k (flat_map noted_by vs) → v.1 ≡ None) → SkipsAfter (vs ++ v ∷ [])
 skips_more [] v h below skips = ((λ _. tt), tt)
 skips_more (u ∷ us) v h below skips = (
-  (λ failed. all_last us v (h.0 failed) (skips u.0 below.0 (noted_here u (flat_map noted_by us) failed))),
+  (λ failed. all_snoc IsSkipped us v (h.0 failed) (skips u.0 below.0 (noted_here u (flat_map noted_by us) failed))),
   skips_more us v h.1 below.1 (λ k lt some. skips k lt (noted_later k u (flat_map noted_by us) some)),
 )
 
@@ -46,10 +43,6 @@ none_below k low (v ∷ vs) lt h =
     own true le = let lt : k < v.0 = omega arith in grind arith
     own false le = refl
 
-higher : (x : ℕ) (ys : List ℕ) → AllByRecursion (λ y. x < y) ys → AllByRecursion (λ y. x ≤ y) ys
-higher x [] h = tt
-higher x (y ∷ ys) h = ((let lt : x < y = h.0 in omega arith), higher x ys h.1)
-
 pub none_under : (n : ℕ) (ns : List ℕ) → AllByRecursion (λ y. n ≤ y) ns → NoneUnder n ns
 none_under n [] h k lt = refl
 none_under n (y ∷ ns) h k lt = let rest = none_under n ns h.1 k lt in let le : n ≤ y = h.0 in grind arith
@@ -63,7 +56,7 @@ skips_all noted (v ∷ vs) h = ((λ k lt some. h.0), skips_all noted vs h.1)
 pub skips_behind : (vs : List (ℕ × Option Verdict)) → IsRising (jobs_in vs) → SkipsAfter vs → AllByRecursion (SkipsBehind (flat_map noted_by vs)) vs
 skips_behind [] rising h = tt
 skips_behind (v ∷ vs) rising h = (
-  (λ k lt some. let none = none_below k v.0 (v ∷ vs) lt ((let le : v.0 ≤ v.0 = omega arith in le), higher v.0 (jobs_in vs) rising.0) in absurd (omega arith)),
+  (λ k lt some. let none = none_below k v.0 (v ∷ vs) lt ((let le : v.0 ≤ v.0 = omega arith in le), at_least v.0 (jobs_in vs) rising.0) in absurd (omega arith)),
   by_test (has_failed v.1) refl (skips_behind vs rising.1 h.1),
 )
   where

@@ -1,14 +1,10 @@
 -- Desks, and workers that have drawn nothing.
 use Rattle.std.specs.Prelude.{◌≡◌, ℕ, ◌≤◌, false, [], vec_capacity}
 use Rattle.claim_board.specs.declared.board.Board.{Board}
-use Rattle.claim_board.specs.declared.view.View.{View}
 use Rattle.claim_board.specs.Views.{view, none_noted}
 use Rattle.claim_board.specs.Seats.{Belongs, view_of, jobs_of}
 use Rattle.worker_map.specs.declared.work.Worker.{Worker}
 use Rattle.worker_map.specs.declared.desk.Desk.{Desk}
-
-abbrev pub with_room : View → ℕ → View
-with_room v room = view v.jobs v.mine v.taken v.ended room v.noted v.seen
 
 -- a worker that has drawn nothing
 pub record IsNew (board : Board) (w : Worker) : Type 0 where

@@ -3,7 +3,8 @@ ghost use Rattle.std.specs.Prelude.{◌≡◌, ◌<◌, ◌≤◌, ◌-◌, [], 
 ghost use Rattle.std.specs.List.{AllByRecursion};
 ghost use Rattle.claim_board.specs.Seats.{Belongs, view_of, jobs_of};
 ghost use Rattle.claim_board.specs.Views.{none_noted};
-ghost use Rattle.worker_map.specs.Desks.{IsNew, IsEmpty, with_room};
+ghost use Rattle.worker_map.specs.Desks.{IsNew, IsEmpty};
+ghost use Rattle.worker_map.specs.Crew.{with_room};
 
 use crate::work::Worker;
 use claim_board::{Board, BoardSeat};

@@ -2,8 +2,8 @@ use Rattle.std.proofs.Common.{◌≡◌, ◌-◌, ◌+◌, ◌≤◌, length, ve
 use Rattle.std.specs.Prelude.{vec_capacity}
 use Rattle.std.specs.List.{AllByRecursion}
 use Rattle.claim_board.specs.Seats.{Belongs, view_of, jobs_of}
-use Rattle.worker_map.specs.Desks.{IsNew, with_room}
-use Rattle.worker_map.specs.Desks.{IsEmpty}
+use Rattle.worker_map.specs.Crew.{with_room}
+use Rattle.worker_map.specs.Desks.{IsNew, IsEmpty}
 use Rattle.worker_map.proofs.desk.hire.Given as goal
 
 abbrev pub invariant-loop-desk : goal.invariant-loop-desk

@@ -18,19 +18,13 @@ returns-in_default-clause-bound g c = rising_length _ _ c.requires.done.rising c
 
 pub push_reserved-requires : goal.push_reserved-requires
 push_reserved-requires g c =
-    let found = c.in-Some.ensures.found in
-    let above = subst (AllByRecursion (λ y. y < c.in-Some.job)) (sym c.requires.done.drawn) found.3 in
-    let more = drawn _ c.in-Some.job _ c.requires.done.rising c.requires.done.below above found.0 in
-    let less = more.room in
+    let less = (drawn _ c.in-Some.job _ c.requires.done.rising c.requires.done.below (subst (AllByRecursion (λ y. y < c.in-Some.job)) (sym c.requires.done.drawn) c.in-Some.ensures.found.3) c.in-Some.ensures.found.0).room in
     let room = c.requires.done.room in
     omega arith
 
 pub push_reserved-requires-2 : goal.push_reserved-requires-2
 push_reserved-requires-2 g c =
-    let found = c.in-Some.ensures.found in
-    let above = subst (AllByRecursion (λ y. y < c.in-Some.job)) (sym c.requires.done.drawn) found.3 in
-    let more = drawn _ c.in-Some.job _ c.requires.done.rising c.requires.done.below above found.0 in
-    let less = more.room in
+    let less = (drawn _ c.in-Some.job _ c.requires.done.rising c.requires.done.below (subst (AllByRecursion (λ y. y < c.in-Some.job)) (sym c.requires.done.drawn) c.in-Some.ensures.found.3) c.in-Some.ensures.found.0).room in
     let same = c.requires.done.same in
     let room = c.requires.done.verdict_room in
     omega arith
@@ -88,9 +82,6 @@ returns-clause-done g c =
 
 pub returns-clause-bound : goal.returns-clause-bound
 returns-clause-bound g c =
-    let found = c.in-Some.ensures.found in
-    let above = subst (AllByRecursion (λ y. y < c.in-Some.job)) (sym c.requires.done.drawn) found.3 in
-    let more = drawn _ c.in-Some.job _ c.requires.done.rising c.requires.done.below above found.0 in
-    let less = more.room in
+    let less = (drawn _ c.in-Some.job _ c.requires.done.rising c.requires.done.below (subst (AllByRecursion (λ y. y < c.in-Some.job)) (sym c.requires.done.drawn) c.in-Some.ensures.found.3) c.in-Some.ensures.found.0).room in
     let long = c.push_reserved.ensures.len in
     omega arith
