@@ -15,6 +15,7 @@ texts_ask words g a given asked = record {
   workers = subst (λ (o : Option (List ℕ)). IsNumber 4 64 o a.workers) (sym given.workers) asked.workers;
   demo = subst (λ (o : Option (List ℕ)). IsDemo o a.demo) (sym given.demo) asked.demo;
   stop = asked.stop ∙ ap flag_of (sym given.stop);
+  json = asked.json ∙ ap flag_of (sym given.json);
 }
 
 -- a text gives one name, one number and one number of theorems
@@ -39,4 +40,5 @@ asked_once words a b p q =
     let workers = number_once 4 64 _ a.workers b.workers p.workers q.workers in
     let demo = demo_once _ a.demo b.demo p.demo q.demo in
     let stop = p.stop ∙ sym q.stop in
-    λ i. record { root = root i; turns = turns i; workers = workers i; demo = demo i; stop = stop i }
+    let json = p.json ∙ sym q.json in
+    λ i. record { root = root i; turns = turns i; workers = workers i; demo = demo i; stop = stop i; json = json i }

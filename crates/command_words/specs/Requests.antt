@@ -19,6 +19,7 @@ pub record Gives (rows : List Row) (g : Given) : Type 0 where
   pub workers : option_map (λ s. s.now) g.workers ≡ first_of (codes "workers") rows
   pub demo : option_map (λ s. s.now) g.demo ≡ first_of (codes "demo") rows
   pub stop : option_map (λ s. s.now) g.stop ≡ first_of (codes "stop") rows
+  pub json : option_map (λ s. s.now) g.json ≡ first_of (codes "json") rows
 
 -- a word without the ending .tla, where it has it
 abbrev pub without_ending : List ℕ → List ℕ
@@ -36,17 +37,19 @@ IsDemo None o = o ≡ None
 IsDemo (Some t) None = ⊥
 IsDemo (Some t) (Some n) = IsNumber 1 1000 (Some t) n
 
--- What words ask for: a root module, a limit of turns, a number of workers, the number of theorems of a demonstration, and whether to stop.
+-- What words ask for: a root module, a limit of turns, a number of workers, the number of theorems of a demonstration, whether to stop, and
+-- whether the report is JSON.
 pub record Asked : Type 0 where
   pub root : List ℕ
   pub turns : ℕ
   pub workers : ℕ
   pub demo : Option ℕ
   pub stop : Bool
+  pub json : Bool
 
 -- what a request asks for
 abbrev pub asked_by : Request → Asked
-asked_by r = record { root = r.root.now; turns = r.turns; workers = r.workers; demo = r.demo; stop = r.stop }
+asked_by r = record { root = r.root.now; turns = r.turns; workers = r.workers; demo = r.demo; stop = r.stop; json = r.json }
 
 -- the texts ask for this
 pub record GivesAsked (g : Given) (a : Asked) : Type 0 where
@@ -55,6 +58,7 @@ pub record GivesAsked (g : Given) (a : Asked) : Type 0 where
   pub workers : IsNumber 4 64 (option_map (λ s. s.now) g.workers) a.workers
   pub demo : IsDemo (option_map (λ s. s.now) g.demo) a.demo
   pub stop : a.stop ≡ flag_of (option_map (λ s. s.now) g.stop)
+  pub json : a.json ≡ flag_of (option_map (λ s. s.now) g.json)
 
 -- the words are lawful and ask for this: the command takes them, the module's word is an identifier but for one ending, and the numbers are in range
 pub record IsAsked (words : List Text) (a : Asked) : Type 0 where
@@ -64,6 +68,7 @@ pub record IsAsked (words : List Text) (a : Asked) : Type 0 where
   pub workers : IsNumber 4 64 (first_of (codes "workers") (rows words)) a.workers
   pub demo : IsDemo (first_of (codes "demo") (rows words)) a.demo
   pub stop : a.stop ≡ flag_of (first_of (codes "stop") (rows words))
+  pub json : a.json ≡ flag_of (first_of (codes "json") (rows words))
 
 -- the words ask for nothing
 abbrev pub Unlawful : List Text → Type 0

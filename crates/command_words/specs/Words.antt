@@ -31,10 +31,11 @@ bare_app = let a = new_app (codes "tla_prove") in record a { top = record a.top 
 abbrev pub number : Text → ℕ → Rule
 number name greatest = number_rule name (vp.Signed (pos 1) (pos greatest))
 
--- the command: MODULE [--turns N] [--workers N] [--demo N] [--stop]
+-- the command: MODULE [--turns N] [--workers N] [--demo N] [--stop] [--json]
 unfoldable pub command_app : App
 command_app =
-    with_rule (with_rule (with_rule (with_rule (with_rule bare_app module_rule) (number (codes "turns") 1000000)) (number (codes "workers") 64)) (number (codes "demo") 1000)) (flag_rule (codes "stop"))
+    with_rule (with_rule (with_rule (with_rule (with_rule (with_rule bare_app module_rule) (number (codes "turns") 1000000)) (number (codes "workers") 64)) (number (codes "demo") 1000)) (flag_rule (codes "stop")))
+    (flag_rule (codes "json"))
 
 -- the command has matches for the words
 unfoldable pub IsTaken : List Text → Type 0

@@ -67,5 +67,6 @@ pub fn command<'a>(alloc: Global) -> Result<Command<'a>, AllocError>
     let three = two.arg(number_arg(alloc, "workers", workers_range()))?;
     let four = three.arg(number_arg(alloc, "demo", demo_range()))?;
     let five = four.arg(flag_arg(alloc, "stop"))?;
-    Ok(five)
+    let six = five.arg(flag_arg(alloc, "json"))?;
+    Ok(six)
 }

@@ -1,8 +1,8 @@
 //! The words of the command.
 //!
 //! To the program this crate promises that [`asked`] reads the words as the command of `specs/Words.antt` has them, by `clap`: the
-//! module's name, the limit of turns, the number of workers, the number of theorems of a demonstration, and whether the first failed leaf
-//! ends the run; and that it refuses words exactly where they are unlawful. Want of memory is an answer of its own. Words ask for one
+//! module's name, the limit of turns, the number of workers, the number of theorems of a demonstration, whether the first failed leaf ends
+//! the run, and whether the report is JSON; and that it refuses words exactly where they are unlawful. Want of memory is an answer of its own. Words ask for one
 //! thing at most ([`asked_once`]).
 #![tactic(auto)]
 

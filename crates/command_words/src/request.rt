@@ -17,6 +17,7 @@ pub struct Given<'a> {
     pub workers: Option<&'a str>,
     pub demo: Option<&'a str>,
     pub stop: Option<&'a str>,
+    pub json: Option<&'a str>,
 }
 
 /// What the words ask for.
@@ -32,6 +33,8 @@ pub struct Request<'a> {
     pub demo: Option<u64>,
     /// Whether the first failed leaf ends the run.
     pub stop: bool,
+    /// Whether the report is a JSON object.
+    pub json: bool,
 }
 
 /// The texts that the words give.
@@ -48,6 +51,7 @@ fn read<'a>(alloc: Global, words: &'a [String]) -> Result<Given<'a>, WordsFault>
         workers: matches.get_str("workers"),
         demo: matches.get_str("demo"),
         stop: matches.get_str("stop"),
+        json: matches.get_str("json"),
     })
 }
 
@@ -110,6 +114,7 @@ fn asked_for<'a>(given: Given<'a>) -> Option<Request<'a>>
         workers: number(given.workers, 4, 64)?,
         demo: demo(given.demo)?,
         stop: flag(given.stop),
+        json: flag(given.json),
     })
 }
 

@@ -20,7 +20,7 @@ use Rattle.command_words.specs.Requests.{Asked, IsAsked, IsDemo}
 use Rattle.proof_manager.specs.declared.status.Status.{Status}
 use Rattle.proof_manager.specs.declared.status.Status.TheVariants as status
 use Rattle.proof_manager.specs.Reading.{Read}
-use Rattle.proof_manager.specs.Runs.{IsRead, came, defined, told, style_for, all_hold, IsDemoSize, InRange}
+use Rattle.proof_manager.specs.Runs.{IsRead, came, defined, told, style_of, all_hold, IsDemoSize, InRange}
 use Rattle.proof_manager.specs.Causes.{WhereTold, TakesReport, TakesPart, EndsTold, WhereReported, Writes}
 
 -- ---- counts
@@ -60,15 +60,15 @@ as-defined a r lost ms law e m =
 -- ---- what a run says, where the modules are read and the report is written
 
 pub reports : (s : Status) (held : Option Folder) (a : Asked) (r : Read) (lost : Canon → Bool) (ms : List ModuleIn × Bool) (old new : Option Bytes) → ReportWithoutMemory
-    → WhereTold held (λ folder. IsRead a folder r) → ms ≡ told lost a r → Writes s (style_for a.demo) ms old new → EndsTold s held a old new
+    → WhereTold held (λ folder. IsRead a folder r) → ms ≡ told lost a r → Writes s (style_of a) ms old new → EndsTold s held a old new
 reports s None a r lost ms old new law h e w = tt
 reports status.AllProved (Some folder) a r lost ms old new law h e w =
-    let same = as-defined a r lost ms law e w.0 in (r, h, sym (ap all_hold same) ∙ w.1, subst (λ m. TakesReport (style_for a.demo) m old new) same w.2)
+    let same = as-defined a r lost ms law e w.0 in (r, h, sym (ap all_hold same) ∙ w.1, subst (λ m. TakesReport (style_of a) m old new) same w.2)
 reports status.NotAll (Some folder) a r lost ms old new law h e w =
-    let same = as-defined a r lost ms law e w.0 in (r, h, sym (ap all_hold same) ∙ w.1, subst (λ m. TakesReport (style_for a.demo) m old new) same w.2)
+    let same = as-defined a r lost ms law e w.0 in (r, h, sym (ap all_hold same) ∙ w.1, subst (λ m. TakesReport (style_of a) m old new) same w.2)
 reports status.MemoryLeaf (Some folder) a r lost ms old new law h e w =
-    (r, h, lost, sym (ap (λ (m : List ModuleIn × Bool). has_memory_leaf m.0) e) ∙ w.0, subst (λ m. TakesReport (style_for a.demo) m old new) e w.1)
-reports status.WriteFault (Some folder) a r lost ms old new law h e w = (r, h, lost, subst (λ m. TakesPart (style_for a.demo) m old new) e w)
+    (r, h, lost, sym (ap (λ (m : List ModuleIn × Bool). has_memory_leaf m.0) e) ∙ w.0, subst (λ m. TakesReport (style_of a) m old new) e w.1)
+reports status.WriteFault (Some folder) a r lost ms old new law h e w = (r, h, lost, subst (λ m. TakesPart (style_of a) m old new) e w)
 reports status.Memory (Some folder) a r lost ms old new law h e w = tt
 reports _ (Some folder) a r lost ms old new law h e w = absurd w
 

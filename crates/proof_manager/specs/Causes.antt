@@ -29,7 +29,7 @@ use Rattle.status_report.specs.Report.{statuses_of, has_memory_leaf}
 use Rattle.leaf_forms.specs.Leaves.{OfChapters}
 use Rattle.command_words.specs.Requests.{Asked, IsAsked, Unlawful}
 use Rattle.proof_manager.specs.Reading.{Answer, Read, reading}
-use Rattle.proof_manager.specs.Runs.{given_for, reading_for, IsRead, defined, told, style_for, text_of, all_hold}
+use Rattle.proof_manager.specs.Runs.{given_for, reading_for, IsRead, defined, told, style_of, text_of, all_hold}
 use Rattle.proof_manager.specs.declared.load.Checked.{Checked}
 use Rattle.proof_manager.specs.declared.status.Status.{Status}
 use Rattle.proof_manager.specs.declared.status.Status.TheVariants as status
@@ -89,11 +89,11 @@ TakesPart style ms old new = (n : ℕ) × (n < length (text_of style ms)) × (ne
 -- defined one. In a report with a Memory leaf, and in a part of a report, the searches of some canonical forms found no memory, and all
 -- else is as it is defined.
 abbrev pub Ends : Status → Asked → Folder → Option Bytes → Option Bytes → Type 0
-Ends status.AllProved a folder old new = (r : Read) × IsRead a folder r × (all_hold (defined a r) ≡ true) × TakesReport (style_for a.demo) (defined a r) old new
-Ends status.NotAll a folder old new = (r : Read) × IsRead a folder r × (all_hold (defined a r) ≡ false) × TakesReport (style_for a.demo) (defined a r) old new
+Ends status.AllProved a folder old new = (r : Read) × IsRead a folder r × (all_hold (defined a r) ≡ true) × TakesReport (style_of a) (defined a r) old new
+Ends status.NotAll a folder old new = (r : Read) × IsRead a folder r × (all_hold (defined a r) ≡ false) × TakesReport (style_of a) (defined a r) old new
 Ends status.MemoryLeaf a folder old new =
-    (r : Read) × IsRead a folder r × (lost : Canon → Bool) × (has_memory_leaf (told lost a r).0 ≡ true) × TakesReport (style_for a.demo) (told lost a r) old new
-Ends status.WriteFault a folder old new = (r : Read) × IsRead a folder r × (lost : Canon → Bool) × TakesPart (style_for a.demo) (told lost a r) old new
+    (r : Read) × IsRead a folder r × (lost : Canon → Bool) × (has_memory_leaf (told lost a r).0 ≡ true) × TakesReport (style_of a) (told lost a r) old new
+Ends status.WriteFault a folder old new = (r : Read) × IsRead a folder r × (lost : Canon → Bool) × TakesPart (style_of a) (told lost a r) old new
 Ends (status.NotFound name) a folder old new = reading_for a folder ≡ Err (load.NotFound name)
 Ends (status.Refused name place kind) a folder old new = reading_for a folder ≡ Err (load.Refused name place kind)
 Ends status.Words a folder old new = Unit {0}

@@ -1,5 +1,5 @@
 -- What a run reports of what was read.
-use Rattle.std.specs.Prelude.{◌≡◌, ℕ, ◌≤◌, Bool, not, ◌&&◌, List, Option, None, Some, option_map, Ok}
+use Rattle.std.specs.Prelude.{◌≡◌, ℕ, ◌≤◌, Bool, true, false, not, ◌&&◌, List, Option, None, Some, option_map, Ok}
 use Rattle.std.specs.List.{list_all}
 use Rattle.tla_io.specs.Told.{Bytes, Folder}
 use Rattle.core_expr.specs.declared.canon.Canon.{Canon}
@@ -10,8 +10,9 @@ use Rattle.theorem_leaves.specs.Chapters.{chapters_of}
 use Rattle.proof_contexts.specs.Statuses.{is_proved}
 use Rattle.status_report.specs.declared.table.ModuleIn.{ModuleIn}
 use Rattle.status_report.specs.declared.table.Style.{Style}
-use Rattle.status_report.specs.declared.table.Style.TheVariants.{Plain, Brief}
-use Rattle.status_report.specs.Report.{report_text, statuses_of}
+use Rattle.status_report.specs.declared.table.Style.TheVariants.{Plain, Json, Brief, BriefJson}
+use Rattle.status_report.specs.Report.{statuses_of}
+use Rattle.status_report.specs.Styles.{report_text}
 use Rattle.leaf_jobs.specs.Came.{Came, with_lost}
 use Rattle.leaf_jobs.specs.Came.Came.{proved, saturated, spent}
 use Rattle.leaf_jobs.specs.Judging.{judged}
@@ -58,10 +59,16 @@ told lost a r = reported a.stop (judged (with_lost lost (came a.turns)) r.table.
 
 -- ---- the report
 
--- of a demonstration the last line alone is written
-abbrev pub style_for : Option ℕ → Style
-style_for None = Plain
-style_for (Some n) = Brief
+-- as JSON or not; of a demonstration the counts alone are written
+abbrev pub style_for : Bool → Option ℕ → Style
+style_for false None = Plain
+style_for true None = Json
+style_for false (Some n) = Brief
+style_for true (Some n) = BriefJson
+
+-- the style that is asked for
+abbrev pub style_of : Asked → Style
+style_of a = style_for a.json a.demo
 
 abbrev pub text_of : Style → List ModuleIn × Bool → Bytes
 text_of style ms = report_text style ms.1 ms.0

@@ -46,12 +46,14 @@ fn write<K: Sink>(
     }
 }
 
-/// The style of a report: of a demonstration the last line alone.
-fn style(demo: Option<u64>) -> Style
-    ensures { result ≡ style_for demo }
+/// The style of a report: as JSON or not, and of a demonstration the counts alone.
+fn style(json: bool, demo: Option<u64>) -> Style
+    ensures { result ≡ style_for json demo }
 {
     match demo {
+        None if json => Style::Json,
         None => Style::Plain,
+        Some(_) if json => Style::BriefJson,
         Some(_) => Style::Brief,
     }
 }
@@ -78,7 +80,7 @@ fn run_root<R: Threads + Sync, S: Shelf, K: Sink, G: Gate>(
 {
     reports_are_just();
     report_without_memory();
-    let style = style(request.demo);
+    let style = style(request.json, request.demo);
     match read_asked(alloc, shelf, request) {
         Ok(checked) => match judge_all(rt, alloc, &checked, request, gate) {
             Ok(judged) => write(alloc, judged.modules.as_slice(), judged.stopped, style, out),

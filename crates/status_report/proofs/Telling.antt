@@ -1,26 +1,30 @@
 -- What was told of modules is their report.
-use Rattle.std.specs.Prelude.{◌≡◌, suc, ◌+◌, Bool, cond, List, [], ◌∷◌, ◌++◌, fold, map, length, count_by, codes}
-use Rattle.std.proofs.Common.{refl, ap, sym, ◌∙◌, append_assoc, append-nil, zero-add}
-use Rattle.std.proofs.lemmas.List.Sums.{sum_by-append, fold-append}
+use Rattle.std.specs.Prelude.{◌≡◌, Bool, List, [], ◌∷◌, ◌++◌, fold, map, codes}
+use Rattle.std.proofs.Common.{refl, ap, sym, ◌∙◌, append_assoc, append-nil}
+use Rattle.std.proofs.lemmas.List.Sums.{fold-append}
 use Rattle.proof_contexts.specs.Statuses.{is_proved}
 use Rattle.status_report.specs.declared.table.TheoremIn.{TheoremIn}
 use Rattle.status_report.specs.declared.table.ModuleIn.{ModuleIn}
 use Rattle.status_report.specs.declared.table.Style.{Style}
-use Rattle.status_report.specs.declared.table.Style.TheVariants.{Plain, Brief}
-use Rattle.status_report.specs.Texts.{Bytes, line, count_line}
-use Rattle.status_report.specs.Statuses.{Seen, nothing, status_in, see, statuses_from}
-use Rattle.status_report.specs.Report.{theorem_lines, theorems_lines, module_lines, modules_lines, all_theorems, statuses_of, in_style, report_text}
+use Rattle.status_report.specs.declared.table.Style.TheVariants.{Plain, Json, Brief, BriefJson}
+use Rattle.status_report.specs.Texts.{Bytes, line}
+use Rattle.status_report.specs.Statuses.{Seen, status_in, see, statuses_from}
+use Rattle.status_report.specs.Report.{theorem_lines, theorems_lines, module_lines, modules_lines, all_theorems, in_style}
 use Rattle.status_report.specs.Telling.{Told, tell, with_text, tell_module}
 
 styled : (style : Style) (a b : Bytes) → in_style style (a ++ b) ≡ in_style style a ++ in_style style b
 styled Plain a b = refl
+styled Json a b = refl
 styled Brief a b = refl
+styled BriefJson a b = refl
 
 nothing-styled : (style : Style) → in_style style [] ≡ []
 nothing-styled Plain = refl
+nothing-styled Json = refl
 nothing-styled Brief = refl
+nothing-styled BriefJson = refl
 
-abbrev flags : Seen → List TheoremIn → List Bool
+abbrev pub flags : Seen → List TheoremIn → List Bool
 flags s ts = map is_proved (statuses_from s ts)
 
 -- theorems told, one after another
@@ -35,7 +39,7 @@ told_theorems style s (t ∷ ts) =
       proved = append_assoc s.proved (is_proved (status_in s.seen t) ∷ []) (flags (see s.seen t) ts) i;
     })
 
-flags-append : (s : Seen) (ts us : List TheoremIn) → flags s (ts ++ us) ≡ flags s ts ++ flags (fold see s ts) us
+pub flags-append : (s : Seen) (ts us : List TheoremIn) → flags s (ts ++ us) ≡ flags s ts ++ flags (fold see s ts) us
 flags-append s [] us = refl
 flags-append s (t ∷ ts) us = ap (λ bs. is_proved (status_in s t) ∷ bs) (flags-append (see s t) ts us)
 
@@ -56,35 +60,3 @@ told_modules style s (m ∷ ms) =
           ∙ append_assoc s.text _ _ ∙ ap (λ b. s.text ++ b) (sym (styled style (module_lines s.seen m) (modules_lines next ms)))) i);
       proved = (append_assoc s.proved (flags s.seen m.theorems) (flags next (all_theorems ms)) ∙ ap (λ b. s.proved ++ b) (sym (flags-append s.seen m.theorems (all_theorems ms)))) i;
     })
-
-counted : {X : Type 0} (p : X → Bool) (x : X) (xs : List X) → count_by p (x ∷ xs) ≡ cond (p x) 1 0 + count_by p xs
-counted p x xs = sum_by-append (λ y. cond (p y) 1 0) (x ∷ []) xs ∙ ap (λ n. n + count_by p xs) (zero-add (cond (p x) 1 0))
-
-count-map : {X : Type 0} (p : X → Bool) (xs : List X) → count_by (λ v. v) (map p xs) ≡ count_by p xs
-count-map p [] = refl
-count-map p (x ∷ xs) = counted (λ v. v) (p x) (map p xs) ∙ ap (λ n. cond (p x) 1 0 + n) (count-map p xs) ∙ sym (counted p x xs)
-
-length-flags : (s : Seen) (ts : List TheoremIn) → length (flags s ts) ≡ length ts
-length-flags s [] = refl
-length-flags s (t ∷ ts) = ap suc (length-flags (see s t) ts)
-
--- what the start leads to
-abbrev pub start : Told
-start = record { seen = nothing; text = []; proved = [] }
-
-module _ (style : Style) (ms : List ModuleIn) (s told : Told) where
-  flags-told : s ≡ start → told ≡ fold (tell_module style) s ms → told.proved ≡ flags nothing (all_theorems ms)
-  flags-told b e = ap (λ (x : Told). x.proved) (e ∙ ap (λ x. fold (tell_module style) x ms) b ∙ told_modules style start ms)
-
-  pub theorems_are : s ≡ start → told ≡ fold (tell_module style) s ms → length told.proved ≡ length (all_theorems ms)
-  theorems_are b e = ap length (flags-told b e) ∙ length-flags nothing (all_theorems ms)
-
-  pub proved_are : s ≡ start → told ≡ fold (tell_module style) s ms → count_by (λ v. v) told.proved ≡ count_by is_proved (statuses_of ms)
-  proved_are b e = ap (count_by (λ v. v)) (flags-told b e) ∙ count-map is_proved (statuses_of ms)
-
-  pub text_is : (stopped : Bool) (text : Bytes) → s ≡ start → told ≡ fold (tell_module style) s ms → text ≡ told.text ++ count_line stopped (length told.proved) (count_by (λ v. v) told.proved)
-      → text ≡ report_text style stopped ms
-  unfolding report_text
-  text_is stopped text b e t =
-      let lines = ap (λ (x : Told). x.text) (e ∙ ap (λ x. fold (tell_module style) x ms) b ∙ told_modules style start ms) in
-      t ∙ (λ i. lines i ++ count_line stopped (theorems_are b e i) (proved_are b e i))

@@ -10,8 +10,8 @@ use Rattle.status_report.specs.declared.table.LeafIn.{LeafIn}
 use Rattle.status_report.specs.declared.table.TheoremIn.{TheoremIn}
 use Rattle.status_report.specs.declared.table.ModuleIn.{ModuleIn}
 use Rattle.status_report.specs.declared.table.Style.{Style}
-use Rattle.status_report.specs.declared.table.Style.TheVariants.{Plain, Brief}
-use Rattle.status_report.specs.Texts.{Bytes, line, place_text, name_text, leaf_line, count_line}
+use Rattle.status_report.specs.declared.table.Style.TheVariants.{Plain}
+use Rattle.status_report.specs.Texts.{Bytes, line, place_text, name_text, leaf_line}
 use Rattle.status_report.specs.Statuses.{Seen, nothing, status_in, see, statuses_from}
 
 abbrev pub word_of : Verdict → Bytes
@@ -54,18 +54,18 @@ all_theorems ms = flat_map (λ (m : ModuleIn). m.theorems) ms
 abbrev pub statuses_of : List ModuleIn → List Status
 statuses_of ms = statuses_from nothing (all_theorems ms)
 
--- the last line of a run that was stopped or not
-abbrev pub last_line : Bool → List ModuleIn → Bytes
-last_line stopped ms = count_line stopped (length (all_theorems ms)) (count_by is_proved (statuses_of ms))
+-- how many theorems there are
+abbrev pub theorem_count : List ModuleIn → ℕ
+theorem_count ms = length (all_theorems ms)
 
--- what a style writes of a text before the last line
+-- how many of them are proved
+abbrev pub proved_count : List ModuleIn → ℕ
+proved_count ms = count_by is_proved (statuses_of ms)
+
+-- a text of a style that writes lines
 abbrev pub in_style : Style → Bytes → Bytes
 in_style Plain text = text
-in_style Brief text = []
-
--- the report of modules, of a run that was stopped or not
-unfoldable pub report_text : Style → Bool → List ModuleIn → Bytes
-report_text style stopped ms = in_style style (modules_lines nothing ms) ++ last_line stopped ms
+in_style _ text = []
 
 abbrev pub is_memory : Shown → Bool
 is_memory shown.Memory = true

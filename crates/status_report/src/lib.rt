@@ -5,6 +5,7 @@
 //! the definition of statuses in `proof_contexts` says ([`statuses_agree`]).
 #![tactic(auto)]
 
+mod json;
 mod judge;
 mod laws;
 mod seen;

@@ -53,13 +53,17 @@ pub struct ModuleIn {
     pub theorems: Items<TheoremIn>,
 }
 
-/// How much of a report is written.
+/// How a report is written.
 #[derive(Clone, Copy, Debug, PartialEq, Eq)]
 pub enum Style {
     /// All lines.
     Plain,
+    /// One compact JSON object (RFC 8259) and a line feed.
+    Json,
     /// The last line alone.
     Brief,
+    /// An object of the counts alone.
+    BriefJson,
 }
 
 /// A report that is ready to be written.

@@ -5,9 +5,11 @@ ghost use Rattle.std.specs.List.{list_any};
 ghost use Rattle.proof_contexts.specs.Statuses.{is_proved};
 ghost use Rattle.status_report.specs.Texts.{line};
 ghost use Rattle.status_report.specs.Statuses.{status_in};
-ghost use Rattle.status_report.specs.Report.{status_text, theorem_line, theorem_lines, all_theorems, statuses_of, in_style, report_text, is_memory, wants_memory, has_memory_leaf};
+ghost use Rattle.status_report.specs.Report.{status_text, theorem_line, theorem_lines, theorem_count, proved_count, in_style, is_memory, wants_memory, has_memory_leaf};
 ghost use Rattle.status_report.specs.Telling.{seen_of, status_of, told_of, tell, tell_module};
+ghost use Rattle.status_report.specs.Styles.{counts_text, report_text, tell_body};
 
+use crate::json;
 use crate::judge::Status;
 use crate::seen::Seen;
 use crate::table::{LeafIn, ModuleIn, Report, Shown, Style, TheoremIn};
@@ -17,10 +19,10 @@ use std::alloc::{AllocError, Global};
 
 /// What is known of the theorems so far, the text, and for each theorem whether it is proved.
 #[derive(Drop)]
-struct Told<'a> {
-    seen: Seen<'a>,
-    text: Vec<u8>,
-    proved: Vec<bool>,
+pub(crate) struct Told<'a> {
+    pub seen: Seen<'a>,
+    pub text: Vec<u8>,
+    pub proved: Vec<bool>,
 }
 
 /// Appends a status and the end of the line.
@@ -103,7 +105,7 @@ fn push_header(text: &mut Vec<u8>, style: Style, name: &[u8]) -> Result<(), Allo
 {
     match style {
         Style::Plain => push_line(text, b"module ", name),
-        Style::Brief => Ok(()),
+        _ => Ok(()),
     }
 }
 
@@ -128,6 +130,40 @@ fn tell_modules<'a>(
         tell_module(told, style, home)?;
     }
     Ok(())
+}
+
+/// Tells modules in a style, before the counts.
+fn tell_body<'a>(told: &mut Told<'a>, style: Style, modules: &'a [ModuleIn]) -> Result<(), Memory>
+    ensures { OnOk result (told_of told.new ≡ tell_body style (told_of told.old) modules.now) }
+{
+    match style {
+        Style::Plain => tell_modules(told, Style::Plain, modules),
+        Style::Json => json::tell_first(told, modules),
+        Style::Brief => tell_modules(told, Style::Brief, modules),
+        Style::BriefJson => {
+            told.text.extend_from_slice(b"{")?;
+            tell_modules(told, Style::BriefJson, modules)
+        }
+    }
+}
+
+/// Appends the counts in a style.
+fn push_counts(
+    out: &mut Vec<u8>,
+    style: Style,
+    theorems: usize,
+    proved: usize,
+    stopped: bool,
+) -> Result<(), AllocError>
+    ensures { OnOk result (out.new.items
+        ≡ out.old.items ++ counts_text style stopped theorems proved) }
+{
+    match style {
+        Style::Plain => push_count(out, theorems, proved, stopped),
+        Style::Json => json::push_counts(out, theorems, proved, stopped),
+        Style::Brief => push_count(out, theorems, proved, stopped),
+        Style::BriefJson => json::push_counts(out, theorems, proved, stopped),
+    }
 }
 
 /// How many are true.
@@ -167,7 +203,7 @@ fn has_memory_leaf(modules: &[ModuleIn]) -> bool
 
 /// The report of modules, which says at its end where the run was stopped. Want of memory is the only other answer. Takes near linear
 /// time.
-#[tactic(auto, unfolding(crate::specs::Report::report_text))]
+#[tactic(auto, unfolding(crate::specs::Styles::report_text))]
 pub fn report(
     alloc: Global,
     modules: &[ModuleIn],
@@ -175,8 +211,8 @@ pub fn report(
     stopped: bool,
 ) -> Result<Report, Memory>
     ensures text { IfOk result (λ r. r.text.items ≡ report_text style stopped modules.now) }
-    ensures theorems { IfOk result (λ r. r.theorems ≡ length (all_theorems modules.now)) }
-    ensures proved { IfOk result (λ r. r.proved ≡ count_by is_proved (statuses_of modules.now)) }
+    ensures theorems { IfOk result (λ r. r.theorems ≡ theorem_count modules.now) }
+    ensures proved { IfOk result (λ r. r.proved ≡ proved_count modules.now) }
     ensures memory { IfOk result (λ r. r.memory_leaf ≡ has_memory_leaf modules.now) }
 {
     let mut told = Told {
@@ -184,7 +220,7 @@ pub fn report(
         text: Vec::new(alloc),
         proved: Vec::new(alloc),
     };
-    tell_modules(&mut told, style, modules)?;
+    tell_body(&mut told, style, modules)?;
     let Told {
         mut text,
         proved,
@@ -193,7 +229,7 @@ pub fn report(
     let flags = proved.as_slice();
     let theorems = flags.len();
     let proved = count_true(flags);
-    push_count(&mut text, theorems, proved, stopped)?;
+    push_counts(&mut text, style, theorems, proved, stopped)?;
     Ok(Report {
         text,
         theorems,

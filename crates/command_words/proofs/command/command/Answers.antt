@@ -18,4 +18,5 @@ returns c =
     let two = more _ _ _ _ _ (c.in_ok-two.ensures.shape c.number_arg.ensures.1) one (c.number_arg.ensures.0 ∙ ap (number_rule (codes "turns")) c.turns_range.ensures) in
     let three = more _ _ _ _ _ (c.in_ok-three.ensures.shape c.number_arg-2.ensures.1) two (c.number_arg-2.ensures.0 ∙ ap (number_rule (codes "workers")) c.workers_range.ensures) in
     let four = more _ _ _ _ _ (c.in_ok-four.ensures.shape c.number_arg-3.ensures.1) three (c.number_arg-3.ensures.0 ∙ ap (number_rule (codes "demo")) c.demo_range.ensures) in
-    more _ _ _ _ _ (c.in_ok-five.ensures.shape c.flag_arg.ensures.1) four c.flag_arg.ensures.0
+    let five = more _ _ _ _ _ (c.in_ok-five.ensures.shape c.flag_arg.ensures.1) four c.flag_arg.ensures.0 in
+    more _ _ _ _ _ (c.in_ok-six.ensures.shape c.flag_arg-2.ensures.1) five c.flag_arg-2.ensures.0

@@ -15,4 +15,5 @@ returns-clause-given c =
       workers = c.get_str-3.ensures ∙ text (codes "workers");
       demo = c.get_str-4.ensures ∙ text (codes "demo");
       stop = c.get_str-5.ensures ∙ text (codes "stop");
+      json = c.get_str-6.ensures ∙ text (codes "json");
     }
