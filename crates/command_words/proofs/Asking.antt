@@ -16,6 +16,7 @@ texts_ask words g a given asked = record {
   demo = subst (λ (o : Option (List ℕ)). IsDemo o a.demo) (sym given.demo) asked.demo;
   stop = asked.stop ∙ ap flag_of (sym given.stop);
   json = asked.json ∙ ap flag_of (sym given.json);
+  cache = asked.cache ∙ sym given.cache;
 }
 
 -- a text gives one name, one number and one number of theorems
@@ -41,4 +42,5 @@ asked_once words a b p q =
     let demo = demo_once _ a.demo b.demo p.demo q.demo in
     let stop = p.stop ∙ sym q.stop in
     let json = p.json ∙ sym q.json in
-    λ i. record { root = root i; turns = turns i; workers = workers i; demo = demo i; stop = stop i; json = json i }
+    let cache = p.cache ∙ sym q.cache in
+    λ i. record { root = root i; turns = turns i; workers = workers i; demo = demo i; stop = stop i; json = json i; cache = cache i }

@@ -20,6 +20,7 @@ pub record Gives (rows : List Row) (g : Given) : Type 0 where
   pub demo : option_map (λ s. s.now) g.demo ≡ first_of (codes "demo") rows
   pub stop : option_map (λ s. s.now) g.stop ≡ first_of (codes "stop") rows
   pub json : option_map (λ s. s.now) g.json ≡ first_of (codes "json") rows
+  pub cache : option_map (λ s. s.now) g.cache ≡ first_of (codes "cache") rows
 
 -- a word without the ending .tla, where it has it
 abbrev pub without_ending : List ℕ → List ℕ
@@ -37,8 +38,8 @@ IsDemo None o = o ≡ None
 IsDemo (Some t) None = ⊥
 IsDemo (Some t) (Some n) = IsNumber 1 1000 (Some t) n
 
--- What words ask for: a root module, a limit of turns, a number of workers, the number of theorems of a demonstration, whether to stop, and
--- whether the report is JSON.
+-- What words ask for: a root module, a limit of turns, a number of workers, the number of theorems of a demonstration, whether to stop,
+-- whether the report is JSON, and the file of a cache.
 pub record Asked : Type 0 where
   pub root : List ℕ
   pub turns : ℕ
@@ -46,10 +47,11 @@ pub record Asked : Type 0 where
   pub demo : Option ℕ
   pub stop : Bool
   pub json : Bool
+  pub cache : Option (List ℕ)
 
 -- what a request asks for
 abbrev pub asked_by : Request → Asked
-asked_by r = record { root = r.root.now; turns = r.turns; workers = r.workers; demo = r.demo; stop = r.stop; json = r.json }
+asked_by r = record { root = r.root.now; turns = r.turns; workers = r.workers; demo = r.demo; stop = r.stop; json = r.json; cache = option_map (λ s. s.now) r.cache }
 
 -- the texts ask for this
 pub record GivesAsked (g : Given) (a : Asked) : Type 0 where
@@ -59,6 +61,7 @@ pub record GivesAsked (g : Given) (a : Asked) : Type 0 where
   pub demo : IsDemo (option_map (λ s. s.now) g.demo) a.demo
   pub stop : a.stop ≡ flag_of (option_map (λ s. s.now) g.stop)
   pub json : a.json ≡ flag_of (option_map (λ s. s.now) g.json)
+  pub cache : a.cache ≡ option_map (λ s. s.now) g.cache
 
 -- the words are lawful and ask for this: the command takes them, the module's word is an identifier but for one ending, and the numbers are in range
 pub record IsAsked (words : List Text) (a : Asked) : Type 0 where
@@ -69,6 +72,7 @@ pub record IsAsked (words : List Text) (a : Asked) : Type 0 where
   pub demo : IsDemo (first_of (codes "demo") (rows words)) a.demo
   pub stop : a.stop ≡ flag_of (first_of (codes "stop") (rows words))
   pub json : a.json ≡ flag_of (first_of (codes "json") (rows words))
+  pub cache : a.cache ≡ first_of (codes "cache") (rows words)
 
 -- the words ask for nothing
 abbrev pub Unlawful : List Text → Type 0

@@ -15,6 +15,10 @@ IsRule rule arg = (rule_of arg ≡ rule) × (arg.global ≡ false)
 abbrev pub number_rule : Text → ValueParser → Rule
 number_rule name parser = record (new_rule name) { long = Some name; action = Some Set; parser = Some parser }
 
+-- an option with a text
+abbrev pub text_rule : Text → Rule
+text_rule name = record (new_rule name) { long = Some name; action = Some Set }
+
 -- an option that is there or not
 abbrev pub flag_rule : Text → Rule
 flag_rule name = record (new_rule name) { long = Some name; action = Some SetTrue }
@@ -31,11 +35,11 @@ bare_app = let a = new_app (codes "tla_prove") in record a { top = record a.top 
 abbrev pub number : Text → ℕ → Rule
 number name greatest = number_rule name (vp.Signed (pos 1) (pos greatest))
 
--- the command: MODULE [--turns N] [--workers N] [--demo N] [--stop] [--json]
+-- the command: MODULE [--turns N] [--workers N] [--demo N] [--stop] [--json] [--cache FILE]
 unfoldable pub command_app : App
 command_app =
-    with_rule (with_rule (with_rule (with_rule (with_rule (with_rule bare_app module_rule) (number (codes "turns") 1000000)) (number (codes "workers") 64)) (number (codes "demo") 1000)) (flag_rule (codes "stop")))
-    (flag_rule (codes "json"))
+    with_rule (with_rule (with_rule (with_rule (with_rule (with_rule (with_rule bare_app module_rule) (number (codes "turns") 1000000)) (number (codes "workers") 64)) (number (codes "demo") 1000)) (flag_rule (codes "stop"))) (flag_rule (codes "json")))
+    (text_rule (codes "cache"))
 
 -- the command has matches for the words
 unfoldable pub IsTaken : List Text → Type 0

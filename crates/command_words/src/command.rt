@@ -2,7 +2,7 @@
 ghost use Rattle.std.specs.Prelude.{◌≡◌, pos, IfOk};
 ghost use Rattle.clap.specs.Words.{app_of};
 ghost use Rattle.clap.specs.declared.builder.value_parser.ValueParser.TheVariants as vp;
-ghost use Rattle.command_words.specs.Words.{command_app, IsRule, module_rule, number_rule, flag_rule};
+ghost use Rattle.command_words.specs.Words.{command_app, IsRule, module_rule, number_rule, text_rule, flag_rule};
 
 use clap::builder::ValueParser;
 use clap::{Arg, ArgAction, Command};
@@ -25,6 +25,13 @@ fn number_arg<'a>(alloc: Global, name: &'a str, parser: ValueParser<'a>) -> Arg<
         .long(name)
         .action(ArgAction::Set)
         .value_parser(parser)
+}
+
+/// An option with a text.
+fn text_arg<'a>(alloc: Global, name: &'a str) -> Arg<'a>
+    ensures { IsRule (text_rule name.entry.now) result }
+{
+    Arg::new(alloc, name).long(name).action(ArgAction::Set)
 }
 
 /// An option that is there or not.
@@ -68,5 +75,6 @@ pub fn command<'a>(alloc: Global) -> Result<Command<'a>, AllocError>
     let four = three.arg(number_arg(alloc, "demo", demo_range()))?;
     let five = four.arg(flag_arg(alloc, "stop"))?;
     let six = five.arg(flag_arg(alloc, "json"))?;
-    Ok(six)
+    let seven = six.arg(text_arg(alloc, "cache"))?;
+    Ok(seven)
 }

@@ -2,7 +2,7 @@
 //!
 //! To the program this crate promises that [`asked`] reads the words as the command of `specs/Words.antt` has them, by `clap`: the
 //! module's name, the limit of turns, the number of workers, the number of theorems of a demonstration, whether the first failed leaf ends
-//! the run, and whether the report is JSON; and that it refuses words exactly where they are unlawful. Want of memory is an answer of its own. Words ask for one
+//! the run, whether the report is JSON, and the file of a cache; and that it refuses words exactly where they are unlawful. Want of memory is an answer of its own. Words ask for one
 //! thing at most ([`asked_once`]).
 #![tactic(auto)]
 

@@ -18,6 +18,7 @@ pub struct Given<'a> {
     pub demo: Option<&'a str>,
     pub stop: Option<&'a str>,
     pub json: Option<&'a str>,
+    pub cache: Option<&'a str>,
 }
 
 /// What the words ask for.
@@ -35,6 +36,8 @@ pub struct Request<'a> {
     pub stop: bool,
     /// Whether the report is a JSON object.
     pub json: bool,
+    /// The file of the cache, where one is asked for.
+    pub cache: Option<&'a str>,
 }
 
 /// The texts that the words give.
@@ -52,6 +55,7 @@ fn read<'a>(alloc: Global, words: &'a [String]) -> Result<Given<'a>, WordsFault>
         demo: matches.get_str("demo"),
         stop: matches.get_str("stop"),
         json: matches.get_str("json"),
+        cache: matches.get_str("cache"),
     })
 }
 
@@ -115,6 +119,7 @@ fn asked_for<'a>(given: Given<'a>) -> Option<Request<'a>>
         demo: demo(given.demo)?,
         stop: flag(given.stop),
         json: flag(given.json),
+        cache: given.cache,
     })
 }
 

@@ -19,4 +19,5 @@ returns c =
     let three = more _ _ _ _ _ (c.in_ok-three.ensures.shape c.number_arg-2.ensures.1) two (c.number_arg-2.ensures.0 ∙ ap (number_rule (codes "workers")) c.workers_range.ensures) in
     let four = more _ _ _ _ _ (c.in_ok-four.ensures.shape c.number_arg-3.ensures.1) three (c.number_arg-3.ensures.0 ∙ ap (number_rule (codes "demo")) c.demo_range.ensures) in
     let five = more _ _ _ _ _ (c.in_ok-five.ensures.shape c.flag_arg.ensures.1) four c.flag_arg.ensures.0 in
-    more _ _ _ _ _ (c.in_ok-six.ensures.shape c.flag_arg-2.ensures.1) five c.flag_arg-2.ensures.0
+    let six = more _ _ _ _ _ (c.in_ok-six.ensures.shape c.flag_arg-2.ensures.1) five c.flag_arg-2.ensures.0 in
+    more _ _ _ _ _ (c.in_ok-seven.ensures.shape c.text_arg.ensures.1) six c.text_arg.ensures.0

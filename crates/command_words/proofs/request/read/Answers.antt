@@ -16,4 +16,5 @@ returns-clause-given c =
       demo = c.get_str-4.ensures ∙ text (codes "demo");
       stop = c.get_str-5.ensures ∙ text (codes "stop");
       json = c.get_str-6.ensures ∙ text (codes "json");
+      cache = c.get_str-7.ensures ∙ text (codes "cache");
     }
