@@ -100,6 +100,36 @@ fn demonstrations_are_reported_by_their_last_line(rt: HostRuntime) -> Result<(),
 }
 
 #[test]
+fn reports_are_json_where_asked_for(rt: HostRuntime) -> Result<(), Fail> {
+    compare(
+        &rt,
+        rt.alloc(),
+        &[
+            (
+                &["M", "--json"],
+                0,
+                "{\"modules\":[{\"name\":\"M\",\"theorems\":[{\"column\":1,\"leaves\":[{\"column\":33,\"line\":3,\"turns\":4,\"verdict\":\"proved\"}],\"line\":3,\"name\":\"T\",\"status\":\"proved\"}]}],\"proved\":1,\"theorems\":1}\n",
+            ),
+            (
+                &["--json", "M", "--turns", "1", "--stop"],
+                1,
+                "{\"modules\":[{\"name\":\"M\",\"theorems\":[{\"column\":1,\"leaves\":[{\"column\":33,\"line\":3,\"turns\":1,\"verdict\":\"spent\"}],\"line\":3,\"name\":\"T\",\"status\":\"unproved\"}]}],\"proved\":0,\"stopped\":true,\"theorems\":1}\n",
+            ),
+            (
+                &["M", "--demo", "20", "--json"],
+                1,
+                "{\"proved\":18,\"theorems\":20}\n",
+            ),
+            (
+                &["M", "--json", "--demo", "20", "--stop"],
+                1,
+                "{\"proved\":9,\"stopped\":true,\"theorems\":10}\n",
+            ),
+        ],
+    )
+}
+
+#[test]
 fn other_words_are_unlawful(rt: HostRuntime) -> Result<(), Fail> {
     compare(
         &rt,
@@ -114,6 +144,8 @@ fn other_words_are_unlawful(rt: HostRuntime) -> Result<(), Fail> {
             (&["M", "--demo", "1001"], 2, "words"),
             (&["M", "--demo", "nine"], 2, "words"),
             (&["M", "--stop", "yes"], 2, "words"),
+            (&["M", "--json", "--json"], 2, "words"),
+            (&["M", "--json=yes"], 2, "words"),
             (&["M", "--help"], 2, "words"),
             (&["M", "N"], 2, "words"),
             (&["--demo", "9"], 2, "words"),

@@ -1,0 +1,4 @@
+---- MODULE M ----
+CONSTANTS A, B
+THEOREM T == (A => B) /\ A => B OBVIOUS
+====

@@ -1,0 +1,9 @@
+---- MODULE N ----
+EXTENDS M
+VARIABLE x
+THEOREM U == A /\ x => B OMITTED
+THEOREM A /\ B => x OBVIOUS
+THEOREM V == A => A BY U
+THEOREM []x BY T
+THEOREM A
+====
