@@ -23,7 +23,7 @@ pub trait Answers: Sync {
         ensures { right self.now job result };
 }
 
-/// The jobs of a run in order, with what proves them, the records of its cache, and its limit of turns.
+/// The jobs of a run in order, with what proves them, its cache, and its limit of turns.
 #[derive(Drop)]
 pub struct Jobs<'a, P> {
     pub list: &'a [Canon],
