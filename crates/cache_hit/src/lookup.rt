@@ -37,7 +37,8 @@ pub fn hit(alloc: Global, cache: &Cache, canon: &Canon) -> Result<Option<SeqProo
     requires closed_goal { IsScoped 0 canon.now.goal }
     ensures { IfOk result (λ r. r ≡ hit canon.now (kept_for cache.now canon.now)) }
 {
-    for proof in cache.proofs(canon) {
+    let kept = cache.proofs(canon);
+    for proof in kept {
         if is_proof_of(alloc, canon, proof)? {
             return Ok(Some(copy(alloc, proof)?));
         }
