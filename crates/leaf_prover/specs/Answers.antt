@@ -12,7 +12,7 @@ use Rattle.search_definition.specs.Search.End.{Closed, Saturated as Open, Spent 
 use Rattle.propositional_laws.specs.Formulas.{is_propositional_canon, symbol_count}
 use Rattle.propositional_laws.specs.Valuations.{valuation}
 use Rattle.leaf_prover.specs.declared.answer.Answer.{Answer}
-use Rattle.leaf_prover.specs.declared.answer.Answer.TheVariants.{Proved, Saturated, Spent}
+use Rattle.leaf_prover.specs.declared.answer.Answer.TheVariants.{Proved, Saturated, Spent, Cached}
 
 -- the values of the symbols on a branch of a propositional form
 abbrev pub values_of : Canon → Branch → Option (List Bool)
@@ -37,6 +37,7 @@ abbrev pub is_proved : Answer → Bool
 is_proved (Proved turns) = true
 is_proved (Saturated values turns) = false
 is_proved (Spent turns) = false
+is_proved Cached = true
 
 -- the verdict is the answer to the form, and a proof comes with it that is correct for the form
 abbrev pub IsRight : ℕ → Canon → Verdict → Type 0

@@ -1,7 +1,7 @@
 //! The answer to a canonical form.
 use sqlite_items::Items;
 
-/// How the written search ends on a canonical form.
+/// How the written search ends on a canonical form, or that it was not needed.
 #[derive(Debug, Drop)]
 pub enum Answer {
     /// Each branch closed, after this many turns.
@@ -18,4 +18,6 @@ pub enum Answer {
     Spent {
         turns: u64,
     },
+    /// A kept proof is correct for the form, which is then not searched.
+    Cached,
 }

@@ -1,13 +1,17 @@
 //! The written search with a proof of what it proves.
 ghost use Rattle.std.specs.Prelude.{◌≡◌, true, IfOk};
+ghost use Rattle.proof_cache.specs.Records.{kept_for};
 ghost use Rattle.proof_cache.specs.Verdicts.{Allowed};
+ghost use Rattle.cache_hit.specs.Hits.{hit};
 ghost use Rattle.leaf_prover.specs.Forms.{is_form};
 ghost use Rattle.leaf_prover.specs.Answers.{IsRight};
+ghost use Rattle.leaf_prover.specs.Provers.{IsAnsweredBy};
 ghost use Rattle.leaf_prover.specs.Searches.{IsSearched};
 
 use crate::form::is_form;
 use crate::search::{Searched, search_form};
 use crate::values::values_of;
+use cache_hit::{hit, hit_is_correct};
 use core_expr::{Canon, Memory};
 use equation_proofs::Rules;
 use proof_cache::{Cache, Limit, Prover, Verdict};
@@ -57,7 +61,24 @@ pub fn prove(alloc: Global, canon: &Canon, limit: Limit) -> Verdict
     }
 }
 
-/// The prover of jobs: the written search on forms.
+/// The first proof that the cache keeps for the form and that is correct for it, after no turn, and else what the written search answers.
+fn recall_or_prove(alloc: Global, canon: &Canon, cache: &Cache, limit: Limit) -> Verdict
+    requires form { is_form canon.now ≡ true }
+    ensures { Allowed (IsAnsweredBy (hit canon.now (kept_for cache.now canon.now)) limit) canon.now result }
+{
+    hit_is_correct();
+    match hit(alloc, cache, canon) {
+        Ok(Some(proof)) => Verdict::Proved {
+            proof,
+            turns: 0,
+            cached: true,
+        },
+        Ok(None) => prove(alloc, canon, limit),
+        Err(_) => Verdict::Memory,
+    }
+}
+
+/// The prover of jobs: the kept proofs, and the written search on forms.
 #[derive(Drop)]
 pub struct Engine {
     alloc: Global,
@@ -73,13 +94,13 @@ impl Engine {
 impl Prover for Engine {
     ghost use Rattle.leaf_prover.specs.Provers.{IsAnswered};
 
-    ghost answers = { λ e records n c v. IsAnswered n c v };
+    ghost answers = { λ e kept n c v. IsAnswered (kept c) n c v };
 
-    /// The verdict of the written search on a form. What is no form is not searched.
-    fn prove(&self, canon: &Canon, _cache: &Cache, limit: Limit) -> Verdict {
+    /// A kept proof that is correct for the form, or the verdict of the written search. What is no form is neither looked up nor searched.
+    fn prove(&self, canon: &Canon, cache: &Cache, limit: Limit) -> Verdict {
         if !is_form(canon) {
             return Verdict::Spent { turns: 0 };
         }
-        prove(self.alloc, canon, limit)
+        recall_or_prove(self.alloc, canon, cache, limit)
     }
 }

@@ -1,6 +1,6 @@
 //! What answers mean. The functions do nothing: their contracts are the laws.
 ghost use Rattle.leaf_prover.specs.Laws.{ProvedDerives, ProvedIsValid, ValuesFalsify, EnoughTurnsDecide, FewConnectivesDecide};
-ghost use Rattle.leaf_prover.specs.Provers.{RightIsAnswered};
+ghost use Rattle.leaf_prover.specs.Provers.{RightIsAnswered, ProofsAreCorrect, NoneKeptIsSearched, CacheKeepsProved};
 
 use proof_trees::loop_proves;
 use propositional_laws::{
@@ -37,8 +37,16 @@ pub fn enough_turns_decide()
     few_connectives();
 }
 
-/// A right verdict of a job says what the written search answers to its form.
-#[tactic(auto, using(crate::proofs::Saying::right_is_answered))]
+/// A right verdict of a job says what is answered to its form, and where it is a proof, that proof is correct, whatever the cache holds.
+#[tactic(auto, using(crate::proofs::Saying::right_is_answered, crate::proofs::Saying::proofs_are_correct))]
 pub fn right_is_answered()
-    ensures { RightIsAnswered }
+    ensures says { RightIsAnswered }
+    ensures correct { ProofsAreCorrect }
+{}
+
+/// Where no proofs are kept, a form is searched; and what is proved so is proved whatever the cache holds.
+#[tactic(auto, using(crate::proofs::Saying::none_kept_is_searched, crate::proofs::Saying::cache_keeps_proved))]
+pub fn cache_keeps_proved()
+    ensures searched { NoneKeptIsSearched }
+    ensures proved { CacheKeepsProved }
 {}

@@ -1,0 +1,3 @@
+pub mod Correctness
+pub mod Hits
+pub mod Laws
