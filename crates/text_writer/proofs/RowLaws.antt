@@ -80,7 +80,7 @@ mutual
       let p = enter e ns in
       ap (λ l. run l (state ns qs)) (append_assoc (rows_at d e) (all_rows d ps) rs) ∙ run-rows d e (all_rows d ps ++ rs) ns qs
       ∙ run-parts d ps rs p.nodes (qs ++ p.place ∷ [])
-      ∙ ap (λ ps. run rs (state (enter_parts ps p.nodes).nodes ps)) refl
+      ∙ ap (λ l. run rs (state (enter_parts ps p.nodes).nodes l)) (append_assoc qs (p.place ∷ []) (enter_parts ps p.nodes).places)
 
 drop-all : (rs : List Row) (i : ℕ) → length rs ≤ i → drop i rs ≡ []
 drop-all [] zero h = refl
