@@ -26,7 +26,7 @@ mutual
       let a = enter_parts ps ns in
       join (extends-parts ps ns) (join (extends e a.nodes) (root-extends (bind b ps e) (with_last a (enter e))))
 
-  extends-parts : (ps : Parts) (ns : List ProofNode) → Extends ns (enter_parts ps ns).nodes
+  pub extends-parts : (ps : Parts) (ns : List ProofNode) → Extends ns (enter_parts ps ns).nodes
   extends-parts end ns = same ns
   extends-parts (part e ps) ns = join (extends e ns) (extends-parts ps (enter e ns).nodes)
 

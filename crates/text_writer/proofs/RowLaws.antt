@@ -98,7 +98,7 @@ pub run-all : (t : Tree) (i : ℕ) (old new : List ProofNode) (qs : List ℕ) �
     → (new ≡ (enter t old).nodes) × (qs ≡ (enter t old).place ∷ [])
 run-all t i old new qs l h =
     let e : state new qs ≡ pushed [] (enter t old) =
-        ap (λ rs. run rs (state new qs)) (sym (drop-all (rows_of t) i l)) ∙ h ∙ ap (λ rs. run rs (state old [])) (sym (append-nil (rows_of t))) ∙ run-rows 0 t [] old [] in
+    ap (λ rs. run rs (state new qs)) (sym (drop-all (rows_of t) i l)) ∙ h ∙ ap (λ rs. run rs (state old [])) (sym (append-nil (rows_of t))) ∙ run-rows 0 t [] old [] in
     (ap (λ (a : AllPlaced). a.nodes) e, ap (λ (a : AllPlaced). a.places) e)
 
 -- one more node is completed
