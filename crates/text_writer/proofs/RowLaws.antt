@@ -80,7 +80,7 @@ mutual
       let p = enter e ns in
       ap (λ l. run l (state ns qs)) (append_assoc (rows_at d e) (all_rows d ps) rs) ∙ run-rows d e (all_rows d ps ++ rs) ns qs
       ∙ run-parts d ps rs p.nodes (qs ++ p.place ∷ [])
-      ∙ ap (λ ps. run rs (state (enter_parts ps p.nodes).nodes ps)) refl
+      ∙ ap (λ l. run rs (state (enter_parts ps p.nodes).nodes l)) (append_assoc qs (p.place ∷ []) (enter_parts ps p.nodes).places)
 
 drop-all : (rs : List Row) (i : ℕ) → length rs ≤ i → drop i rs ≡ []
 drop-all [] zero h = refl
@@ -98,7 +98,7 @@ pub run-all : (t : Tree) (i : ℕ) (old new : List ProofNode) (qs : List ℕ) �
     → (new ≡ (enter t old).nodes) × (qs ≡ (enter t old).place ∷ [])
 run-all t i old new qs l h =
     let e : state new qs ≡ pushed [] (enter t old) =
-        ap (λ rs. run rs (state new qs)) (sym (drop-all (rows_of t) i l)) ∙ h ∙ ap (λ rs. run rs (state old [])) (sym (append-nil (rows_of t))) ∙ run-rows 0 t [] old [] in
+    ap (λ rs. run rs (state new qs)) (sym (drop-all (rows_of t) i l)) ∙ h ∙ ap (λ rs. run rs (state old [])) (sym (append-nil (rows_of t))) ∙ run-rows 0 t [] old [] in
     (ap (λ (a : AllPlaced). a.nodes) e, ap (λ (a : AllPlaced). a.places) e)
 
 -- one more node is completed

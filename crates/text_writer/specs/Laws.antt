@@ -1,5 +1,5 @@
 -- Laws of what is written.
-use Rattle.std.specs.Prelude.{List, [], ◌∷◌, Unit}
+use Rattle.std.specs.Prelude.{List, [], ◌∷◌}
 use Rattle.core_expr.specs.declared.canon.Canon.{Canon}
 use Rattle.core_expr.specs.Tree.{Tree}
 use Rattle.core_expr.specs.Heads.{IsWellFormed}
