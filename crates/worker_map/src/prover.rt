@@ -1,5 +1,6 @@
 //! What answers jobs by number, and what is told before it.
 ghost use Rattle.std.specs.Prelude.{◌<◌, length};
+ghost use Rattle.proof_cache.specs.Records.{kept_for};
 ghost use Rattle.worker_map.specs.Answers.{IsVerdict};
 
 use core_expr::Canon;
@@ -22,7 +23,7 @@ pub trait Answers: Sync {
         ensures { right self.now job result };
 }
 
-/// The jobs of a run in order, with what proves them, the records of its cache, and its limit of turns.
+/// The jobs of a run in order, with what proves them, its cache, and its limit of turns.
 #[derive(Drop)]
 pub struct Jobs<'a, P> {
     pub list: &'a [Canon],
@@ -45,7 +46,7 @@ impl Gate for Through {
 }
 
 impl<'a, P: Prover> Answers for Jobs<'a, P> {
-    ghost right = { λ j. IsVerdict (P.answers j.prover.now j.cache.now.records.items j.limit) j.list.now };
+    ghost right = { λ j. IsVerdict (P.answers j.prover.now (kept_for j.cache.now) j.limit) j.list.now };
 
     ghost count = { λ j. length j.list.now };
 

@@ -3,6 +3,7 @@ ghost use Rattle.std.specs.Prelude.{◌≡◌, ◌<◌, ◌≤◌, ◌^◌, leng
 ghost use Rattle.std.specs.List.{AllByRecursion};
 ghost use Rattle.claim_board.specs.Seats.{Belongs, view_of, jobs_of};
 ghost use Rattle.claim_board.specs.Views.{first_view};
+ghost use Rattle.proof_cache.specs.Records.{kept_for};
 ghost use Rattle.worker_map.specs.Answers.{IsVerdict, has_failed};
 ghost use Rattle.worker_map.specs.Desks.{IsNew};
 ghost use Rattle.worker_map.specs.Collected.{IsDone, shown};
@@ -141,7 +142,7 @@ pub fn run_jobs<R: Threads + Sync, G: Gate, P: Prover>(
     ensures seat { Belongs board.now seat.new }
     ensures memory { OnErr result (view_of seat.new ≡ view_of seat.old) }
     ensures count { IfOk result (λ d. length d.verdicts.items ≡ length jobs.now.list.now) }
-    ensures verdicts { IfOk result (λ d. AllGiven (IsVerdict (P.answers jobs.now.prover.now jobs.now.cache.now.records.items jobs.now.limit) jobs.now.list.now) d.verdicts.items) }
+    ensures verdicts { IfOk result (λ d. AllGiven (IsVerdict (P.answers jobs.now.prover.now (kept_for jobs.now.cache.now) jobs.now.limit) jobs.now.list.now) d.verdicts.items) }
     ensures least { IfOk result (λ d. IsLeast d.least d.verdicts.items) }
     ensures skipped { IfOk result (λ d. IsCutAt stop d.least d.verdicts.items) }
     ensures alone { IfOk result (λ d. workers ≡ 1 → stop ≡ true → SkipsBehindLeast d.least d.verdicts.items) }
