@@ -8,7 +8,7 @@ use Rattle.proof_text.specs.Texts.{Shows, ProofsDiffer, ObligationsDiffer, canon
 use Rattle.cache_line.specs.declared.line.Line.{Line}
 use Rattle.cache_line.specs.Lines.{IsLine}
 use Rattle.proof_cache.specs.declared.record.Record.{Record}
-use Rattle.cache_file.specs.Records.{IsRecord, IsRead, IsShown, IsKept, AreRecords, records_in, skipped_in, parts_of}
+use Rattle.cache_file.specs.Records.{IsRead, IsShown, records_in, skipped_in, parts_of}
 use Rattle.cache_file.specs.Laws.{RecordsAreOne}
 
 -- a list shows one form

@@ -1,5 +1,5 @@
 -- Bytes cut into lines.
-use Rattle.std.specs.Prelude.{ℕ, Bool, cond, nat_eq, List, [], ◌∷◌}
+use Rattle.std.specs.Prelude.{ℕ, cond, nat_eq, List, [], ◌∷◌}
 
 -- a byte in front of the first line
 abbrev pub joined : ℕ → List (List ℕ) → List (List ℕ)

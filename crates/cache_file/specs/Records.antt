@@ -1,5 +1,6 @@
 -- The records among lines.
-use Rattle.std.specs.Prelude.{◌≡◌, ℕ, suc, ◌≤◌, List, [], ◌∷◌, length, Option, Some, None}
+use Rattle.std.specs.Prelude.{◌≡◌, ℕ, suc, ◌≤◌, List, [], ◌∷◌, length, Option, Some, None, Result, IfOk}
+use Rattle.core_expr.specs.declared.memory.Memory.{Memory}
 use Rattle.std.specs.List.{AllZip}
 use Rattle.seq_calculus.specs.Lists.{AreLists, written}
 use Rattle.proof_text.specs.Key.{key_of}
@@ -33,6 +34,10 @@ pub record IsRecord (bytes : List ℕ) (r : Record) : Type 0 where
 abbrev pub IsRead : List ℕ → Option Record → Type 0
 IsRead l (Some r) = IsRecord l r
 IsRead l None = (r : Record) → IsRecord l r → ⊥
+
+-- what reading a line answers, but for want of memory
+abbrev pub IsAnswered : List ℕ → Result (Option Record) Memory → Type 0
+IsAnswered l r = IfOk r (λ o. IsRead l o)
 
 -- the records among these, in order
 abbrev pub records_in : List (Option Record) → List Record

@@ -6,7 +6,7 @@ ghost use Rattle.proof_text.specs.Key.{key_of};
 ghost use Rattle.proof_text.specs.Texts.{Shows, IsProofText};
 ghost use Rattle.text_writer.specs.Tables.{canon_list};
 ghost use Rattle.proof_cache.specs.declared.record.Record.{Record};
-ghost use Rattle.cache_file.specs.Records.{IsKept, IsRead};
+ghost use Rattle.cache_file.specs.Records.{IsAnswered, IsKept};
 
 use cache_line::{Line, read_line};
 use core_expr::{Canon, Memory, Text};
@@ -78,7 +78,7 @@ fn record(alloc: Global, parts: &Line) -> Result<Option<Record>, Memory>
 
 /// The record of a line: None exactly where it is none.
 pub fn read_record(alloc: Global, line: &[u8]) -> Result<Option<Record>, Memory>
-    ensures { IfOk result (λ o. IsRead line.now o) }
+    ensures { IsAnswered line.now result }
 {
     if line.len() > GREATEST_LENGTH {
         return Ok(None);

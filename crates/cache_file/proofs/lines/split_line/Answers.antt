@@ -1,4 +1,4 @@
-use Rattle.std.proofs.Common.{arith, add-one}
+use Rattle.std.proofs.Common.{arith}
 use Rattle.cache_file.proofs.LineLaws.{first_line, only_line}
 use Rattle.cache_file.proofs.lines.split_line.Goals as goal
 
