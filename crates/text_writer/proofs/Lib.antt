@@ -1,0 +1,4 @@
+pub mod RowLaws
+pub mod PutLaws
+pub mod EnterLaws
+pub mod TreeLaws
