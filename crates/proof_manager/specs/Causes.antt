@@ -3,13 +3,14 @@ use Rattle.std.specs.Prelude.{◌≡◌, ℕ, ◌≤◌, ◌<◌, Bool, true, fa
 use Rattle.std.specs.declared.string.String.{String}
 use Rattle.std.specs.declared.alloc.Global.{Global}
 use Rattle.tla_io.specs.Causes.{Rose}
-use Rattle.tla_io.specs.Told.{Bytes, Folder, with_more}
+use Rattle.tla_io.specs.Told.{Bytes, Folder, with_more, with_content, SameElsewhere, SameNames}
 use Rattle.tla_ast.specs.declared.fault.ScopeFault.TheVariants as fault
 use Rattle.module_shelf.specs.declared.fault.LoadFault.{LoadFault}
 use Rattle.module_shelf.specs.declared.fault.LoadFault.TheVariants as load
 use Rattle.plain_syntax.specs.Syntax.{module_of}
 use Rattle.core_expr.specs.declared.canon.Canon.{Canon}
 use Rattle.seq_calculus.specs.Calculus.{Der}
+use Rattle.seq_calculus.specs.Lists.{Lists}
 use Rattle.valuation.specs.Truth.{Falsifies, by_number}
 use Rattle.propositional_laws.specs.Formulas.{all_connectives, is_propositional_canon}
 use Rattle.propositional_laws.specs.Valuations.{IsValid}
@@ -17,6 +18,7 @@ use Rattle.propositional_laws.specs.Laws.{HasTurns}
 use Rattle.leaf_prover.specs.declared.answer.Answer.TheVariants.{Saturated}
 use Rattle.leaf_prover.specs.Forms.{is_form}
 use Rattle.leaf_prover.specs.Answers.{answer, is_proved}
+use Rattle.leaf_prover.specs.Provers.{answered}
 use Rattle.leaf_prover.specs.Laws as laws
 use Rattle.name_places.specs.Places.{NamesDiffer}
 use Rattle.theorem_leaves.specs.Chapters.{chapters_of}
@@ -27,9 +29,11 @@ use Rattle.status_report.specs.declared.table.ModuleIn.{ModuleIn}
 use Rattle.status_report.specs.declared.table.Style.{Style}
 use Rattle.status_report.specs.Report.{statuses_of, has_memory_leaf}
 use Rattle.leaf_forms.specs.Leaves.{OfChapters}
+use Rattle.leaf_jobs.specs.Came.{with_lost}
 use Rattle.command_words.specs.Requests.{Asked, IsAsked, Unlawful}
 use Rattle.proof_manager.specs.Reading.{Answer, Read, reading}
-use Rattle.proof_manager.specs.Runs.{given_for, reading_for, IsRead, defined, told, style_of, text_of, all_hold}
+use Rattle.proof_manager.specs.Runs.{given_for, reading_for, IsRead, Proofs, came, defined, told, jobs_of, style_of, text_of, all_hold}
+use Rattle.proof_manager.specs.Caching.{Contents, AreKept, CacheOut}
 use Rattle.proof_manager.specs.declared.load.Checked.{Checked}
 use Rattle.proof_manager.specs.declared.status.Status.{Status}
 use Rattle.proof_manager.specs.declared.status.Status.TheVariants as status
@@ -75,6 +79,7 @@ IsUnwritten status.AllProved old new = Unit {0}
 IsUnwritten status.NotAll old new = Unit {0}
 IsUnwritten status.MemoryLeaf old new = Unit {0}
 IsUnwritten status.WriteFault old new = Unit {0}
+IsUnwritten status.CacheWrite old new = Unit {0}
 IsUnwritten _ old new = new ≡ old
 
 -- the whole report was taken
@@ -85,24 +90,79 @@ TakesReport style ms old new = new ≡ with_more old (text_of style ms)
 abbrev pub TakesPart : Style → List ModuleIn × Bool → Option Bytes → Option Bytes → Type 0
 TakesPart style ms old new = (n : ℕ) × (n < length (text_of style ms)) × (new ≡ with_more old (take n (text_of style ms)))
 
--- What a status says of the modules that are asked for, and of what the sink took. The report of the status AllProved or NotAll is the
--- defined one. In a report with a Memory leaf, and in a part of a report, the searches of some canonical forms found no memory, and all
--- else is as it is defined.
-abbrev pub Ends : Status → Asked → Folder → Option Bytes → Option Bytes → Type 0
-Ends status.AllProved a folder old new = (r : Read) × IsRead a folder r × (all_hold (defined a r) ≡ true) × TakesReport (style_of a) (defined a r) old new
-Ends status.NotAll a folder old new = (r : Read) × IsRead a folder r × (all_hold (defined a r) ≡ false) × TakesReport (style_of a) (defined a r) old new
-Ends status.MemoryLeaf a folder old new =
-    (r : Read) × IsRead a folder r × (lost : Canon → Bool) × (has_memory_leaf (told lost a r).0 ≡ true) × TakesReport (style_of a) (told lost a r) old new
-Ends status.WriteFault a folder old new = (r : Read) × IsRead a folder r × (lost : Canon → Bool) × TakesPart (style_of a) (told lost a r) old new
-Ends (status.NotFound name) a folder old new = reading_for a folder ≡ Err (load.NotFound name)
-Ends (status.Refused name place kind) a folder old new = reading_for a folder ≡ Err (load.Refused name place kind)
-Ends status.Words a folder old new = Unit {0}
-Ends status.ReadFault a folder old new = Unit {0}
-Ends status.Memory a folder old new = Unit {0}
+-- what a device held before a run, and what it holds after it
+pub record Change (T : Type 0) : Type 0 where
+  pub before : T
+  pub after : T
+
+-- What the cache's files hold behind a whole report. Without a file, and where the report is stopped, it is what they held before; else the
+-- file has the new cache, and all others have what they had.
+abbrev pub IsLeft : Bool → Option Bytes → (Bytes → Type 0) → Change Contents → Type 0
+IsLeft stopped None Out files = files.after ≡ files.before
+IsLeft true (Some file) Out files = files.after ≡ files.before
+IsLeft false (Some file) Out files = (bytes : Bytes) × Out bytes × (files.after ≡ with_content files.before file bytes)
+
+-- a file could not be replaced: of its content nothing is known, and all others are as they were
+abbrev pub IsElsewhere : Option Bytes → Change Contents → Type 0
+IsElsewhere None files = ⊥
+IsElsewhere (Some file) files = SameElsewhere files.before files.after file × SameNames files.before files.after
+
+abbrev pub no_form : Canon → Bool
+no_form c = false
+
+-- What a status says of the modules that are asked for, of what the sink took, and of the cache's files. The report of the status AllProved
+-- or NotAll is the defined one. In a report with a Memory leaf, and in a part of a report, the searches of some canonical forms found no
+-- memory, and all else is as it is defined.
+module _ (a : Asked) (folder : Folder) (files : Change Contents) (taken : Change (Option Bytes)) where
+  -- this is read of the modules, and these are the proofs that the cache keeps
+  abbrev pub IsOf : Read → Proofs → Type 0
+  IsOf r ps = IsRead a folder r × AreKept a.cache files.before ps
+
+  abbrev pub Takes : List ModuleIn × Bool → Type 0
+  Takes ms = TakesReport (style_of a) ms taken.before taken.after
+
+  -- behind the report the new cache is left, of all forms that are to be proved
+  abbrev pub Leaves : Read → Proofs → (Canon → Bool) → Type 0
+  Leaves r ps lost = IsLeft (told ps lost a r).1 a.cache (CacheOut (with_lost lost (came ps a.turns)) ps (jobs_of r)) files
+
+  abbrev pub Ends : Status → Type 0
+  Ends status.AllProved = (r : Read) × (ps : Proofs) × IsOf r ps × (all_hold (defined ps a r) ≡ true) × Takes (defined ps a r) × Leaves r ps no_form
+  Ends status.NotAll = (r : Read) × (ps : Proofs) × IsOf r ps × (all_hold (defined ps a r) ≡ false) × Takes (defined ps a r) × Leaves r ps no_form
+  Ends status.MemoryLeaf = (r : Read) × (ps : Proofs) × IsOf r ps × (lost : Canon → Bool) × (has_memory_leaf (told ps lost a r).0 ≡ true) × Takes (told ps lost a r) × Leaves r ps lost
+  Ends status.WriteFault = (r : Read) × (ps : Proofs) × IsOf r ps × (lost : Canon → Bool) × TakesPart (style_of a) (told ps lost a r) taken.before taken.after
+  Ends status.CacheWrite = (r : Read) × (ps : Proofs) × IsOf r ps × (lost : Canon → Bool) × Takes (told ps lost a r) × IsElsewhere a.cache files
+  Ends (status.NotFound name) = reading_for a folder ≡ Err (load.NotFound name)
+  Ends (status.Refused name place kind) = reading_for a folder ≡ Err (load.Refused name place kind)
+  Ends status.Words = Unit {0}
+  Ends status.ReadFault = Unit {0}
+  Ends status.CacheRead = Unit {0}
+  Ends status.Memory = Unit {0}
 
 -- the same, where the shelf tells what it holds
-abbrev pub EndsTold : Status → Option Folder → Asked → Option Bytes → Option Bytes → Type 0
-EndsTold s held a old new = WhereTold held (λ folder. Ends s a folder old new)
+abbrev pub EndsTold : Status → Option Folder → Asked → Change Contents → Change (Option Bytes) → Type 0
+EndsTold s held a files taken = WhereTold held (λ folder. Ends a folder files taken s)
+
+-- the cache was not called: after unlawful words, and where the modules were not read
+abbrev pub IsUncalled : {C : Type 0} → Status → C → C → Type 0
+IsUncalled status.Words old new = new ≡ old
+IsUncalled (status.Refused name place kind) old new = new ≡ old
+IsUncalled (status.NotFound name) old new = new ≡ old
+IsUncalled status.ReadFault old new = new ≡ old
+IsUncalled _ old new = Unit {0}
+
+-- no file of the cache was replaced, but behind a whole report
+abbrev pub IsUnreplaced : Status → Contents → Contents → Type 0
+IsUnreplaced status.AllProved before after = Unit {0}
+IsUnreplaced status.NotAll before after = Unit {0}
+IsUnreplaced status.MemoryLeaf before after = Unit {0}
+IsUnreplaced status.CacheWrite before after = Unit {0}
+IsUnreplaced _ before after = after ≡ before
+
+-- the cache's count rose for a read or a write fault of the cache, and else it stays
+abbrev pub CacheCause : Status → ℕ → ℕ → Type 0
+CacheCause status.CacheRead before now = (before ≤ now) × Rose before now
+CacheCause status.CacheWrite before now = (before ≤ now) × Rose before now
+CacheCause _ before now = now ≡ before
 
 -- a fact on what the words ask for, where they are lawful
 abbrev pub OfAsked : List Bytes → (Asked → Type 0) → Type 0
@@ -114,6 +174,7 @@ OfReported P status.AllProved a folder = (r : Read) × IsRead a folder r × P a 
 OfReported P status.NotAll a folder = (r : Read) × IsRead a folder r × P a r
 OfReported P status.MemoryLeaf a folder = (r : Read) × IsRead a folder r × P a r
 OfReported P status.WriteFault a folder = (r : Read) × IsRead a folder r × P a r
+OfReported P status.CacheWrite a folder = (r : Read) × IsRead a folder r × P a r
 OfReported P _ a folder = Unit {0}
 
 -- the same, where the shelf tells what it holds
@@ -122,22 +183,23 @@ WhereReported P s held a = WhereTold held (λ folder. OfReported P s a folder)
 
 -- ---- what reports mean
 
--- A leaf that is to be proved has a form that the search takes. Where it is proved, its goal has a derivation from its facts, and where it
--- is propositional too, no valuation falsifies it. The values that are printed of a leaf falsify its canonical form: they make its facts
--- true and its goal false.
+-- A leaf that is to be proved has a form that the search takes. Where it is proved, by the search or by a kept proof, whatever the cache
+-- held, its goal has a derivation from its facts. What the search proves is proved whatever is kept, and of a propositional leaf no
+-- valuation falsifies it. The values that are printed of a leaf falsify its canonical form: they make its facts true and its goal false.
 pub record IsJustForm (turns : ℕ) (c : Canon) : Type 0 where
   pub form : is_form c ≡ true
-  pub derived : is_proved (answer turns c) ≡ true → Der c.facts (c.goal ∷ [])
+  pub derived : (ps : List Lists) → is_proved (answered ps turns c) ≡ true → Der c.facts (c.goal ∷ [])
+  pub no_less : (ps : List Lists) → is_proved (answer turns c) ≡ true → is_proved (answered ps turns c) ≡ true
   pub valid : is_propositional_canon c ≡ true → is_proved (answer turns c) ≡ true → IsValid c.facts c.goal
-  pub falsified : (values : List Bool) (n : ℕ) → answer turns c ≡ Saturated (Some values) n → Falsifies (by_number values) c.facts c.goal
+  pub falsified : (ps : List Lists) (values : List Bool) (n : ℕ) → answered ps turns c ≡ Saturated (Some values) n → Falsifies (by_number values) c.facts c.goal
 
--- Each theorem that is reported proved, whichever searches found memory, has a derivation of its fully expanded fact from the fully
--- expanded assumptions before it alone. What is reported of its leaves is so of them.
+-- Each theorem that is reported proved, whatever the cache held and whichever searches found memory, has a derivation of its fully
+-- expanded fact from the fully expanded assumptions before it alone. What is reported of its leaves is so of them.
 pub record IsJust (a : Asked) (r : Read) : Type 0 where
-  pub derived : (lost : Canon → Bool) → EachDerives (definitions_of r.modules r.table) (all_theorems r.modules r.table) (statuses_of (told lost a r).0)
+  pub derived : (ps : Proofs) (lost : Canon → Bool) → EachDerives (definitions_of r.modules r.table) (all_theorems r.modules r.table) (statuses_of (told ps lost a r).0)
   pub leaves : OfChapters (IsJustForm a.turns) (chapters_of r.modules r.table)
 
--- A propositional canonical form with c connectives is proved exactly where no valuation falsifies it, where the turns are 2 ^ (c + 1) or
+-- A propositional canonical form with c connectives is proved by the search exactly where no valuation falsifies it, where the turns are 2 ^ (c + 1) or
 -- more: 100000 turns are enough for 15 connectives, and 1000000 for 18.
 pub record IsDecidedForm (turns : ℕ) (c : Canon) : Type 0 where
   pub enough : is_propositional_canon c ≡ true → HasTurns c.facts c.goal turns → laws.IsDecided turns c

@@ -1,4 +1,5 @@
 pub mod Reading
 pub mod Runs
+pub mod Caching
 pub mod Status
 pub mod Causes

@@ -1,10 +1,11 @@
 -- What a run reports of what was read.
-use Rattle.std.specs.Prelude.{◌≡◌, ℕ, ◌≤◌, Bool, true, false, not, ◌&&◌, List, Option, None, Some, option_map, Ok}
+use Rattle.std.specs.Prelude.{◌≡◌, ℕ, ◌≤◌, Bool, true, false, not, ◌&&◌, List, [], Option, None, Some, option_map, Ok}
 use Rattle.std.specs.List.{list_all}
 use Rattle.tla_io.specs.Told.{Bytes, Folder}
 use Rattle.core_expr.specs.declared.canon.Canon.{Canon}
+use Rattle.seq_calculus.specs.Lists.{Lists}
 use Rattle.leaf_prover.specs.declared.answer.Answer.{Answer as Searched}
-use Rattle.leaf_prover.specs.declared.answer.Answer.TheVariants.{Proved, Saturated, Spent}
+use Rattle.leaf_prover.specs.declared.answer.Answer.TheVariants.{Proved, Saturated, Spent, Cached}
 use Rattle.leaf_prover.specs.Provers.{answered}
 use Rattle.theorem_leaves.specs.Chapters.{chapters_of}
 use Rattle.proof_contexts.specs.Statuses.{is_proved}
@@ -14,9 +15,13 @@ use Rattle.status_report.specs.declared.table.Style.TheVariants.{Plain, Json, Br
 use Rattle.status_report.specs.Report.{statuses_of}
 use Rattle.status_report.specs.Styles.{report_text}
 use Rattle.leaf_jobs.specs.Came.{Came, with_lost}
-use Rattle.leaf_jobs.specs.Came.Came.{proved, saturated, spent}
+use Rattle.leaf_jobs.specs.Came.Came.{proved, kept, saturated, spent}
+use Rattle.leaf_jobs.specs.Forms.{forms_of}
 use Rattle.leaf_jobs.specs.Judging.{judged}
 use Rattle.leaf_jobs.specs.Stopping.{reported}
+use Rattle.indexmap.specs.IndexSet.{insert_all}
+use Rattle.core_expr.specs.Equality.{same_canon}
+use Rattle.job_plan.specs.Plan.{canons_of}
 use Rattle.demo_maker.specs.Demo.{demo_text}
 use Rattle.command_words.specs.Requests.{Asked}
 use Rattle.module_shelf.specs.Loading.{Outcome}
@@ -43,19 +48,28 @@ abbrev pub as_came : Searched → Came
 as_came (Proved turns) = proved turns
 as_came (Saturated values turns) = saturated values turns
 as_came (Spent turns) = spent turns
+as_came Cached = kept
 
--- what the written search comes to on a canonical form, with at most so many turns
-abbrev pub came : ℕ → Canon → Came
-came turns c = as_came (answered turns c)
+-- the proofs that a cache keeps for each canonical form, in the order of its lines
+abbrev pub Proofs : Type 0
+Proofs = Canon → List Lists
 
--- The modules with what their leaves come to by the written search, and whether the report is stopped: with `--stop` up to the first
--- failed leaf. No number of workers occurs in it.
-abbrev pub defined : Asked → Read → List ModuleIn × Bool
-defined a r = reported a.stop (judged (came a.turns) r.table.entries (chapters_of r.modules r.table))
+-- what a canonical form comes to: by the first kept proof that is correct for it, or by the written search with at most so many turns
+abbrev pub came : Proofs → ℕ → Canon → Came
+came ps turns c = as_came (answered (ps c) turns c)
+
+-- The modules with what their leaves come to by the kept proofs and the written search, and whether the report is stopped: with `--stop`
+-- up to the first failed leaf. No number of workers occurs in it.
+abbrev pub defined : Proofs → Asked → Read → List ModuleIn × Bool
+defined ps a r = reported a.stop (judged (came ps a.turns) r.table.entries (chapters_of r.modules r.table))
 
 -- the same, where the searches of some canonical forms found no memory
-abbrev pub told : (Canon → Bool) → Asked → Read → List ModuleIn × Bool
-told lost a r = reported a.stop (judged (with_lost lost (came a.turns)) r.table.entries (chapters_of r.modules r.table))
+abbrev pub told : Proofs → (Canon → Bool) → Asked → Read → List ModuleIn × Bool
+told ps lost a r = reported a.stop (judged (with_lost lost (came ps a.turns)) r.table.entries (chapters_of r.modules r.table))
+
+-- the canonical forms that are proved: one for each different form of a leaf, in the order of the first
+abbrev pub jobs_of : Read → List Canon
+jobs_of r = insert_all same_canon [] (canons_of (forms_of (chapters_of r.modules r.table)))
 
 -- ---- the report
 

@@ -8,7 +8,7 @@ use itoa::Buffer;
 use std::alloc::{AllocError, Global};
 use tla_ast::{Kind, Place};
 
-/// How a run ended. Every status but `AllProved`, `NotAll`, `MemoryLeaf` and `WriteFault` comes before anything was written.
+/// How a run ended. Every status but `AllProved`, `NotAll`, `MemoryLeaf`, `WriteFault` and `CacheWrite` comes before anything was written.
 #[derive(Debug, Drop)]
 pub enum Status {
     /// The report was taken whole, and every theorem is proved.
@@ -29,8 +29,12 @@ pub enum Status {
     },
     /// A module could not be read.
     ReadFault,
+    /// The cache's file could not be read.
+    CacheRead,
     /// The report could not be written whole; what was taken is its front.
     WriteFault,
+    /// The report was taken whole, and the cache's file could not be replaced.
+    CacheWrite,
     /// Memory was not found, and nothing was written.
     Memory,
     /// The report was taken whole, and the search of some leaf found no memory.
@@ -83,7 +87,9 @@ impl Status {
             Status::Refused { .. } => 3,
             Status::NotFound { .. } => 4,
             Status::ReadFault => 5,
+            Status::CacheRead => 6,
             Status::WriteFault => 7,
+            Status::CacheWrite => 8,
             Status::Memory => 9,
             Status::MemoryLeaf => 10,
         }
