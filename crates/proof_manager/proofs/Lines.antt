@@ -53,35 +53,6 @@ pub all_proved : (ms : List ModuleIn) (proved theorems : ℕ) → proved ≡ cou
 all_proved ms proved theorems p t =
     (λ i. nat_eq (p i) ((t ∙ sym (as-many nothing (all_theorems ms))) i)) ∙ all_count is_proved (statuses_of ms)
 
-as-defined : (a : Asked) (r : Read) (lost : Canon → Bool) (ms : List ModuleIn × Bool) → ReportWithoutMemory → ms ≡ told lost a r → has_memory_leaf ms.0 ≡ false → ms ≡ defined a r
-as-defined a r lost ms law e m =
-    e ∙ law a.stop lost (came a.turns) r.table.entries (chapters_of r.modules r.table) (sym (ap (λ (m : List ModuleIn × Bool). has_memory_leaf m.0) e) ∙ m)
-
--- ---- what a run says, where the modules are read and the report is written
-
-pub reports : (s : Status) (held : Option Folder) (a : Asked) (r : Read) (lost : Canon → Bool) (ms : List ModuleIn × Bool) (old new : Option Bytes) → ReportWithoutMemory
-    → WhereTold held (λ folder. IsRead a folder r) → ms ≡ told lost a r → Writes s (style_of a) ms old new → EndsTold s held a old new
-reports s None a r lost ms old new law h e w = tt
-reports status.AllProved (Some folder) a r lost ms old new law h e w =
-    let same = as-defined a r lost ms law e w.0 in (r, h, sym (ap all_hold same) ∙ w.1, subst (λ m. TakesReport (style_of a) m old new) same w.2)
-reports status.NotAll (Some folder) a r lost ms old new law h e w =
-    let same = as-defined a r lost ms law e w.0 in (r, h, sym (ap all_hold same) ∙ w.1, subst (λ m. TakesReport (style_of a) m old new) same w.2)
-reports status.MemoryLeaf (Some folder) a r lost ms old new law h e w =
-    (r, h, lost, sym (ap (λ (m : List ModuleIn × Bool). has_memory_leaf m.0) e) ∙ w.0, subst (λ m. TakesReport (style_of a) m old new) e w.1)
-reports status.WriteFault (Some folder) a r lost ms old new law h e w = (r, h, lost, subst (λ m. TakesPart (style_of a) m old new) e w)
-reports status.Memory (Some folder) a r lost ms old new law h e w = tt
-reports _ (Some folder) a r lost ms old new law h e w = absurd w
-
-pub of-reported : (P : Asked → Read → Type 0) (s : Status) (held : Option Folder) (a : Asked) (r : Read) (style : Style) (ms : List ModuleIn × Bool) (old new : Option Bytes)
-    → WhereTold held (λ folder. IsRead a folder r) → Writes s style ms old new → ((folder : Folder) → IsRead a folder r → P a r) → WhereReported P s held a
-of-reported P s None a r style ms old new h w p = tt
-of-reported P status.AllProved (Some folder) a r style ms old new h w p = (r, h, p folder h)
-of-reported P status.NotAll (Some folder) a r style ms old new h w p = (r, h, p folder h)
-of-reported P status.MemoryLeaf (Some folder) a r style ms old new h w p = (r, h, p folder h)
-of-reported P status.WriteFault (Some folder) a r style ms old new h w p = (r, h, p folder h)
-of-reported P status.Memory (Some folder) a r style ms old new h w p = tt
-of-reported P _ (Some folder) a r style ms old new h w p = absurd w
-
 -- the numbers that words ask for are in range
 number-range : (other greatest : ℕ) → 1 ≤ other → other ≤ greatest → (o : Option (List ℕ)) (n : ℕ) → IsNumber other greatest o n → (1 ≤ n) × (n ≤ greatest)
 number-range other greatest l g None n h = (subst (λ k. 1 ≤ k) (sym h) l, subst (λ k. k ≤ greatest) (sym h) g)

@@ -11,6 +11,7 @@ use Rattle.proof_cache.specs.declared.verdict.Verdict.{Verdict}
 use Rattle.proof_cache.specs.declared.verdict.Verdict.TheVariants as verdict
 use Rattle.proof_cache.specs.Verdicts.{Allowed}
 use Rattle.leaf_prover.specs.Provers.{answered, IsAnswered, Says, RightIsAnswered}
+use Rattle.leaf_prover.specs.Provers.{proved_by as answered_so}
 use Rattle.worker_map.specs.Answers.{IsVerdict}
 use Rattle.worker_map.specs.Stops.{AllGiven}
 use Rattle.leaf_jobs.specs.Came.{Came, with_lost, came_of, proved_by}
@@ -24,7 +25,7 @@ use Rattle.leaf_jobs.specs.Judging.{judged}
 use Rattle.leaf_jobs.specs.Stopping.{reported}
 use Rattle.command_words.specs.Requests.{Asked}
 use Rattle.proof_manager.specs.Reading.{Read}
-use Rattle.proof_manager.specs.Runs.{as_came, came, told}
+use Rattle.proof_manager.specs.Runs.{Proofs, as_came, came}
 
 -- ---- the jobs are different
 
@@ -97,27 +98,24 @@ lost-at (x ∷ ks) (w ∷ vs) (suc j) c v d k e =
 
 -- ---- what the jobs came to
 
-says-came : (n : ℕ) (c : Canon) (v : Verdict) (b : Bool) → b ≡ is_memory (Some v) → (is_memory (Some v) ≡ false → Says (answered n c) v) → (if b then lost else came n c) ≡ came_of v
-says-came n c (verdict.Proved p turns cached) b e s =
-    let h = s refl in ap (λ b. if b then lost else came n c) e ∙ ap as_came h.0 ∙ sym (ap (λ b. proved_by b turns) h.1)
-says-came n c (verdict.Saturated values turns) b e s = ap (λ b. if b then lost else came n c) e ∙ ap as_came (s refl)
-says-came n c (verdict.Spent turns) b e s = ap (λ b. if b then lost else came n c) e ∙ ap as_came (s refl)
-says-came n c verdict.Memory b e s = ap (λ b. if b then lost else came n c) e
+kept-or-found : (cached : Bool) (turns : ℕ) → as_came (answered_so cached turns) ≡ proved_by cached turns
+kept-or-found true turns = refl
+kept-or-found false turns = refl
 
-right-says : RightIsAnswered → (n : ℕ) (c : Canon) (v : Verdict) → Allowed (IsAnswered n) c v → is_memory (Some v) ≡ false → Says (answered n c) v
-right-says law n c (verdict.Proved p turns cached) h m = law n c (verdict.Proved p turns cached) h
-right-says law n c (verdict.Saturated values turns) h m = law n c (verdict.Saturated values turns) h
-right-says law n c (verdict.Spent turns) h m = law n c (verdict.Spent turns) h
-right-says law n c verdict.Memory h m = absurd cc
+module _ (ps : Proofs) (n : ℕ) where
+  says-came : (c : Canon) (v : Verdict) (b : Bool) → b ≡ is_memory (Some v) → (is_memory (Some v) ≡ false → Says (answered (ps c) n c) v) → (if b then lost else came ps n c) ≡ came_of v
+  says-came c (verdict.Proved p turns cached) b e s = ap (λ b. if b then lost else came ps n c) e ∙ ap as_came (s refl) ∙ kept-or-found cached turns
+  says-came c (verdict.Saturated values turns) b e s = ap (λ b. if b then lost else came ps n c) e ∙ ap as_came (s refl)
+  says-came c (verdict.Spent turns) b e s = ap (λ b. if b then lost else came ps n c) e ∙ ap as_came (s refl)
+  says-came c verdict.Memory b e s = ap (λ b. if b then lost else came ps n c) e
 
-pub come_to : RightIsAnswered → (n : ℕ) (ks cs : List Canon) (vs : List (Option Verdict)) → ks ≡ insert_all same_canon [] cs → AllGiven (IsVerdict (IsAnswered n) ks) vs → ComeTo (with_lost (is_lost ks vs) (came n)) ks vs
-come_to law n ks cs vs e g j c v k at =
-    says-came n c v (is_lost ks vs c) (lost-at ks vs j c v (subst AreDifferent (sym e) (all_inserted [] cs tt)) k at)
-    (right-says law n c v (g j (Some v) at c k))
+  right-says : RightIsAnswered → (c : Canon) (v : Verdict) → Allowed (λ c. IsAnswered (ps c) n c) c v → is_memory (Some v) ≡ false → Says (answered (ps c) n c) v
+  right-says law c (verdict.Proved p turns cached) h m = law (ps c) n c (verdict.Proved p turns cached) h
+  right-says law c (verdict.Saturated values turns) h m = law (ps c) n c (verdict.Saturated values turns) h
+  right-says law c (verdict.Spent turns) h m = law (ps c) n c (verdict.Spent turns) h
+  right-says law c verdict.Memory h m = absurd cc
 
--- so what is reported is told of the modules that are read
-pub judged_told : (a : Asked) (r : Read) (cs : List Chapter) (jobs : List Canon) (vs : List (Option Verdict)) (res : Result Judged Memory) → cs ≡ chapters_of r.modules r.table → ComeTo (with_lost (is_lost jobs vs) (came a.turns)) jobs vs
-    → IfOk res (λ j. (f : Canon → Came) → ComeTo f jobs vs → (j.modules, j.stopped) ≡ reported a.stop (judged f r.table.entries cs)) → IfOk res (λ j. (x : Canon → Bool) × ((j.modules, j.stopped) ≡ told x a r))
-judged_told a r cs jobs vs (Ok j) e h go =
-    (is_lost jobs vs, go (with_lost (is_lost jobs vs) (came a.turns)) h ∙ ap (λ cs. reported a.stop (judged (with_lost (is_lost jobs vs) (came a.turns)) r.table.entries cs)) e)
-judged_told a r cs jobs vs (Err x) e h go = tt
+  pub come_to : RightIsAnswered → (ks cs : List Canon) (vs : List (Option Verdict)) → ks ≡ insert_all same_canon [] cs → AllGiven (IsVerdict (λ c. IsAnswered (ps c) n c) ks) vs
+      → ComeTo (with_lost (is_lost ks vs) (came ps n)) ks vs
+  come_to law ks cs vs e g j c v k at =
+      says-came c v (is_lost ks vs c) (lost-at ks vs j c v (subst AreDifferent (sym e) (all_inserted [] cs tt)) k at) (right-says law c v (g j (Some v) at c k))

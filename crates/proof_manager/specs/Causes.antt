@@ -3,7 +3,7 @@ use Rattle.std.specs.Prelude.{◌≡◌, ℕ, ◌≤◌, ◌<◌, Bool, true, fa
 use Rattle.std.specs.declared.string.String.{String}
 use Rattle.std.specs.declared.alloc.Global.{Global}
 use Rattle.tla_io.specs.Causes.{Rose}
-use Rattle.tla_io.specs.Told.{Bytes, Folder, with_more, with_content, SameElsewhere, SameNames}
+use Rattle.tla_io.specs.Told.{Bytes, Folder, with_more}
 use Rattle.tla_ast.specs.declared.fault.ScopeFault.TheVariants as fault
 use Rattle.module_shelf.specs.declared.fault.LoadFault.{LoadFault}
 use Rattle.module_shelf.specs.declared.fault.LoadFault.TheVariants as load
@@ -29,11 +29,11 @@ use Rattle.status_report.specs.declared.table.ModuleIn.{ModuleIn}
 use Rattle.status_report.specs.declared.table.Style.{Style}
 use Rattle.status_report.specs.Report.{statuses_of, has_memory_leaf}
 use Rattle.leaf_forms.specs.Leaves.{OfChapters}
-use Rattle.leaf_jobs.specs.Came.{with_lost}
 use Rattle.command_words.specs.Requests.{Asked, IsAsked, Unlawful}
 use Rattle.proof_manager.specs.Reading.{Answer, Read, reading}
-use Rattle.proof_manager.specs.Runs.{given_for, reading_for, IsRead, Proofs, came, defined, told, jobs_of, style_of, text_of, all_hold}
-use Rattle.proof_manager.specs.Caching.{Contents, AreKept, CacheOut}
+use Rattle.proof_manager.specs.Runs.{given_for, reading_for, IsRead, Proofs, defined, told, style_of, text_of, all_hold}
+use Rattle.proof_manager.specs.Caching.{Contents, Change, AreKept, IsLeft, IsElsewhere, IsReplaced}
+use Rattle.proof_manager.specs.Judging.{no_form, IsOut}
 use Rattle.proof_manager.specs.declared.load.Checked.{Checked}
 use Rattle.proof_manager.specs.declared.status.Status.{Status}
 use Rattle.proof_manager.specs.declared.status.Status.TheVariants as status
@@ -90,57 +90,43 @@ TakesReport style ms old new = new ≡ with_more old (text_of style ms)
 abbrev pub TakesPart : Style → List ModuleIn × Bool → Option Bytes → Option Bytes → Type 0
 TakesPart style ms old new = (n : ℕ) × (n < length (text_of style ms)) × (new ≡ with_more old (take n (text_of style ms)))
 
--- what a device held before a run, and what it holds after it
-pub record Change (T : Type 0) : Type 0 where
-  pub before : T
-  pub after : T
-
--- What the cache's files hold behind a whole report. Without a file, and where the report is stopped, it is what they held before; else the
--- file has the new cache, and all others have what they had.
-abbrev pub IsLeft : Bool → Option Bytes → (Bytes → Type 0) → Change Contents → Type 0
-IsLeft stopped None Out files = files.after ≡ files.before
-IsLeft true (Some file) Out files = files.after ≡ files.before
-IsLeft false (Some file) Out files = (bytes : Bytes) × Out bytes × (files.after ≡ with_content files.before file bytes)
-
--- a file could not be replaced: of its content nothing is known, and all others are as they were
-abbrev pub IsElsewhere : Option Bytes → Change Contents → Type 0
-IsElsewhere None files = ⊥
-IsElsewhere (Some file) files = SameElsewhere files.before files.after file × SameNames files.before files.after
-
-abbrev pub no_form : Canon → Bool
-no_form c = false
-
--- What a status says of the modules that are asked for, of what the sink took, and of the cache's files. The report of the status AllProved
--- or NotAll is the defined one. In a report with a Memory leaf, and in a part of a report, the searches of some canonical forms found no
+-- What a status says of a report on what was read, of what the sink took, and of the cache's files. The report of the status AllProved or
+-- NotAll is the defined one. In a report with a Memory leaf, and in a part of a report, the searches of some canonical forms found no
 -- memory, and all else is as it is defined.
-module _ (a : Asked) (folder : Folder) (files : Change Contents) (taken : Change (Option Bytes)) where
-  -- this is read of the modules, and these are the proofs that the cache keeps
-  abbrev pub IsOf : Read → Proofs → Type 0
-  IsOf r ps = IsRead a folder r × AreKept a.cache files.before ps
+module _ (a : Asked) (r : Read) (files : Change Contents) (taken : Change (Option Bytes)) where
+  -- these are the proofs that the cache keeps
+  abbrev AreOf : Proofs → Type 0
+  AreOf ps = AreKept a.cache files.before ps
 
-  abbrev pub Takes : List ModuleIn × Bool → Type 0
+  abbrev Takes : List ModuleIn × Bool → Type 0
   Takes ms = TakesReport (style_of a) ms taken.before taken.after
 
   -- behind the report the new cache is left, of all forms that are to be proved
-  abbrev pub Leaves : Read → Proofs → (Canon → Bool) → Type 0
-  Leaves r ps lost = IsLeft (told ps lost a r).1 a.cache (CacheOut (with_lost lost (came ps a.turns)) ps (jobs_of r)) files
+  abbrev Leaves : Proofs → (Canon → Bool) → Type 0
+  Leaves ps lost = IsLeft (told ps lost a r).1 a.cache (IsOut ps lost a r) files
 
-  abbrev pub Ends : Status → Type 0
-  Ends status.AllProved = (r : Read) × (ps : Proofs) × IsOf r ps × (all_hold (defined ps a r) ≡ true) × Takes (defined ps a r) × Leaves r ps no_form
-  Ends status.NotAll = (r : Read) × (ps : Proofs) × IsOf r ps × (all_hold (defined ps a r) ≡ false) × Takes (defined ps a r) × Leaves r ps no_form
-  Ends status.MemoryLeaf = (r : Read) × (ps : Proofs) × IsOf r ps × (lost : Canon → Bool) × (has_memory_leaf (told ps lost a r).0 ≡ true) × Takes (told ps lost a r) × Leaves r ps lost
-  Ends status.WriteFault = (r : Read) × (ps : Proofs) × IsOf r ps × (lost : Canon → Bool) × TakesPart (style_of a) (told ps lost a r) taken.before taken.after
-  Ends status.CacheWrite = (r : Read) × (ps : Proofs) × IsOf r ps × (lost : Canon → Bool) × Takes (told ps lost a r) × IsElsewhere a.cache files
-  Ends (status.NotFound name) = reading_for a folder ≡ Err (load.NotFound name)
-  Ends (status.Refused name place kind) = reading_for a folder ≡ Err (load.Refused name place kind)
-  Ends status.Words = Unit {0}
-  Ends status.ReadFault = Unit {0}
-  Ends status.CacheRead = Unit {0}
-  Ends status.Memory = Unit {0}
+  abbrev pub Tells : Status → Type 0
+  Tells status.AllProved = (ps : Proofs) × AreOf ps × (all_hold (defined ps a r) ≡ true) × Takes (defined ps a r) × Leaves ps no_form
+  Tells status.NotAll = (ps : Proofs) × AreOf ps × (all_hold (defined ps a r) ≡ false) × Takes (defined ps a r) × Leaves ps no_form
+  Tells status.MemoryLeaf = (ps : Proofs) × AreOf ps × (lost : Canon → Bool) × (has_memory_leaf (told ps lost a r).0 ≡ true) × Takes (told ps lost a r) × Leaves ps lost
+  Tells status.WriteFault = (ps : Proofs) × AreOf ps × (lost : Canon → Bool) × TakesPart (style_of a) (told ps lost a r) taken.before taken.after
+  Tells status.CacheWrite = (ps : Proofs) × AreOf ps × (lost : Canon → Bool) × Takes (told ps lost a r) × IsElsewhere a.cache files
+  Tells status.CacheRead = Unit {0}
+  Tells status.Memory = Unit {0}
+  Tells _ = ⊥
+
+-- what a status says of the modules that are asked for, and of their report
+abbrev pub Ends : Status → Asked → Folder → Change Contents → Change (Option Bytes) → Type 0
+Ends (status.NotFound name) a folder files taken = reading_for a folder ≡ Err (load.NotFound name)
+Ends (status.Refused name place kind) a folder files taken = reading_for a folder ≡ Err (load.Refused name place kind)
+Ends status.Words a folder files taken = Unit {0}
+Ends status.ReadFault a folder files taken = Unit {0}
+Ends status.Memory a folder files taken = Unit {0}
+Ends s a folder files taken = (r : Read) × IsRead a folder r × Tells a r files taken s
 
 -- the same, where the shelf tells what it holds
 abbrev pub EndsTold : Status → Option Folder → Asked → Change Contents → Change (Option Bytes) → Type 0
-EndsTold s held a files taken = WhereTold held (λ folder. Ends a folder files taken s)
+EndsTold s held a files taken = WhereTold held (λ folder. Ends s a folder files taken)
 
 -- the cache was not called: after unlawful words, and where the modules were not read
 abbrev pub IsUncalled : {C : Type 0} → Status → C → C → Type 0
@@ -241,11 +227,16 @@ Reads (Err load.Memory) held given root = Unit {0}
 abbrev pub ReadsFor : Result Checked LoadFault → Option Folder → Asked → Type 0
 ReadsFor r held a = Reads r held (given_for a.root a.demo) a.root
 
--- what the writing of the report leaves
-abbrev pub Writes : Status → Style → List ModuleIn × Bool → Option Bytes → Option Bytes → Type 0
-Writes status.AllProved style ms old new = (has_memory_leaf ms.0 ≡ false) × (all_hold ms ≡ true) × TakesReport style ms old new
-Writes status.NotAll style ms old new = (has_memory_leaf ms.0 ≡ false) × (all_hold ms ≡ false) × TakesReport style ms old new
-Writes status.MemoryLeaf style ms old new = (has_memory_leaf ms.0 ≡ true) × TakesReport style ms old new
-Writes status.WriteFault style ms old new = TakesPart style ms old new
-Writes status.Memory style ms old new = Unit {0}
-Writes _ style ms old new = ⊥
+-- what the writing of the report leaves; file, next: the cache's file, and the new cache where one is made
+module _ (style : Style) (ms : List ModuleIn × Bool) (file next : Option Bytes) (files : Change Contents) (taken : Change (Option Bytes)) where
+  abbrev Written : Type 0
+  Written = TakesReport style ms taken.before taken.after × IsReplaced file next files
+
+  abbrev pub Writes : Status → Type 0
+  Writes status.AllProved = (has_memory_leaf ms.0 ≡ false) × (all_hold ms ≡ true) × Written
+  Writes status.NotAll = (has_memory_leaf ms.0 ≡ false) × (all_hold ms ≡ false) × Written
+  Writes status.MemoryLeaf = (has_memory_leaf ms.0 ≡ true) × Written
+  Writes status.WriteFault = TakesPart style ms taken.before taken.after
+  Writes status.CacheWrite = TakesReport style ms taken.before taken.after × IsElsewhere file files
+  Writes status.Memory = Unit {0}
+  Writes _ = ⊥

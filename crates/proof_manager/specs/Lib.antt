@@ -1,5 +1,6 @@
 pub mod Reading
 pub mod Runs
 pub mod Caching
+pub mod Judging
 pub mod Status
 pub mod Causes

@@ -7,16 +7,19 @@ ghost use Rattle.worker_map.specs.Answers.{IsVerdict};
 ghost use Rattle.worker_map.specs.Stops.{AllGiven};
 ghost use Rattle.leaf_jobs.specs.Plans.{AreVerdicts};
 ghost use Rattle.command_words.specs.Requests.{asked_by};
-ghost use Rattle.proof_manager.specs.Runs.{InRange, told};
+ghost use Rattle.proof_cache.specs.Records.{kept_for};
+ghost use Rattle.proof_manager.specs.Runs.{InRange, Proofs};
 ghost use Rattle.proof_manager.specs.Causes.{IsFine, read_in};
+ghost use Rattle.proof_manager.specs.Judging.{IsJudged};
 
+use crate::kept::next_cache;
 use crate::load::Checked;
 use claim_board::Board;
 use command_words::Request;
 use core_expr::Memory;
 use job_plan::{Plan, plan};
-use leaf_jobs::{Judged, forms, judge};
-use leaf_prover::{Engine, right_is_answered};
+use leaf_jobs::{Judged, forms, judge, whole_finds_memory, whole_is_given};
+use leaf_prover::{Engine, proofs_are_correct, right_is_answered};
 use proof_cache::{Cache, Limit};
 use std::alloc::Global;
 use std::thread::Threads;
@@ -29,11 +32,13 @@ fn run_plan<R: Threads + Sync, G: Gate>(
     alloc: Global,
     plan: &Plan,
     request: Request,
+    cache: &Cache,
     gate: &G,
 ) -> Result<Done, Memory>
     requires { InRange (asked_by request) }
     ensures given { IfOk result (λ d. AllGiven
-        (IsVerdict (IsAnswered request.entry.turns) plan.now.jobs.items) d.verdicts.items) }
+        (IsVerdict (λ c. IsAnswered (kept_for cache.now c) request.entry.turns c)
+        plan.now.jobs.items) d.verdicts.items) }
     ensures verdicts { IfOk result (λ d.
         AreVerdicts request.entry.stop d.least plan.now.jobs.items d.verdicts.items) }
 {
@@ -43,14 +48,13 @@ fn run_plan<R: Threads + Sync, G: Gate>(
     }
     let (board, mut seat) = Board::new(alloc, count)?;
     let engine = Engine::new(alloc);
-    let cache = Cache::none(alloc);
     let Some(limit) = Limit::new(request.turns) else {
         unreachable!()
     };
     let jobs = Jobs {
         list: plan.jobs.as_slice(),
         prover: &engine,
-        cache: &cache,
+        cache,
         limit,
     };
     let done = run_jobs(
@@ -67,24 +71,37 @@ fn run_plan<R: Threads + Sync, G: Gate>(
     done
 }
 
-/// What the leaves of modules come to, by the workers that are asked for; with `stop` up to the first failed leaf.
+/// What the leaves of modules come to, and the new cache.
+#[derive(Drop)]
+pub struct Outcome {
+    pub judged: Judged,
+    /// The new cache, where one is to be left.
+    pub next: Option<Vec<u8>>,
+}
+
+/// What the leaves of modules come to, by the workers that are asked for and by the proofs that are kept; with `stop` up to the first failed
+/// leaf. With a file the new cache is made too, unless the report is stopped.
 pub fn judge_all<R: Threads + Sync, G: Gate>(
     rt: &R,
     alloc: Global,
     checked: &Checked,
     request: Request,
+    cache: &Cache,
     gate: &G,
-) -> Result<Judged, Memory>
+) -> Result<Outcome, Memory>
     requires range { InRange (asked_by request) }
     requires fine { IsFine checked.now }
-    ensures { IfOk result (λ j. (lost : Canon → Bool)
-        × ((j.modules, j.stopped) ≡ told lost (asked_by request.entry) (read_in checked.now))) }
+    ensures { IfOk result (IsJudged (kept_for cache.now) (asked_by request.entry)
+        (read_in checked.now)) }
 {
     right_is_answered();
+    proofs_are_correct();
+    whole_is_given();
+    whole_finds_memory();
     let chapters = checked.chapters.as_slice();
     let plan = plan(alloc, forms(alloc, chapters)?)?;
-    let done = run_plan(rt, alloc, &plan, request, gate)?;
-    judge(
+    let done = run_plan(rt, alloc, &plan, request, cache, gate)?;
+    let judged = judge(
         alloc,
         &checked.scoped,
         chapters,
@@ -92,5 +109,13 @@ pub fn judge_all<R: Threads + Sync, G: Gate>(
         done.verdicts.as_slice(),
         done.least,
         request.stop,
-    )
+    )?;
+    let wanted = request.cache.is_some() && !judged.stopped;
+    let next = next_cache(
+        alloc,
+        wanted,
+        plan.jobs.as_slice(),
+        done.verdicts.as_slice(),
+    )?;
+    Ok(Outcome { judged, next })
 }

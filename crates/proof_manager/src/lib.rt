@@ -5,6 +5,7 @@
 #![tactic(auto)]
 
 mod jobs;
+mod kept;
 mod laws;
 mod load;
 mod status;

@@ -116,7 +116,9 @@ impl Status {
                 Text::of(alloc, bytes.as_slice())
             }
             Status::ReadFault => Text::of(alloc, b"read fault"),
+            Status::CacheRead => Text::of(alloc, b"cache read fault"),
             Status::WriteFault => Text::of(alloc, b"write fault"),
+            Status::CacheWrite => Text::of(alloc, b"cache write fault"),
             Status::Memory => Text::of(alloc, b"memory"),
             Status::MemoryLeaf => Text::of(alloc, b"memory in a leaf"),
         }
