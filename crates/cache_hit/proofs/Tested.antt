@@ -1,7 +1,6 @@
 -- The test of proofs says what it is to be correct in the calculus.
-use Rattle.std.specs.Prelude.{◌≡◌, ◌⊎◌, ℕ, Bool, true, false, cond, ◌&&◌, is_some, Option, Some, None, List, [], ◌∷◌}
+use Rattle.std.specs.Prelude.{◌≡◌, ℕ, Bool, true, false, cond, ◌&&◌, is_some, Option, Some, None, List, [], ◌∷◌}
 use Rattle.std.specs.Bool.{Decides}
-use Rattle.std.specs.List.{find}
 use Rattle.std.proofs.Common.{refl, ap, sym, ◌∙◌}
 use Rattle.std.proofs.lemmas.Bool.Decides.{Decides-and, Decides-or, Decides-like}
 use Rattle.core_expr.specs.declared.canon.Canon.{Canon}

@@ -19,7 +19,7 @@ use Rattle.propositional_laws.specs.Formulas.{is_propositional_canon, symbol_cou
 use Rattle.propositional_laws.specs.Valuations.{valuation}
 use Rattle.propositional_laws.specs.Laws.{ClosedIsValid, FormsAreFormulas, TurnsSuffice, DecidesPropositional, FewConnectives, ValuesFalsify as SearchFalsifies}
 use Rattle.leaf_prover.specs.declared.answer.Answer.{Answer}
-use Rattle.leaf_prover.specs.declared.answer.Answer.TheVariants.{Proved, Saturated, Spent}
+use Rattle.leaf_prover.specs.declared.answer.Answer.TheVariants.{Proved, Saturated, Spent, Cached}
 use Rattle.leaf_prover.specs.Forms.{is_form_part, are_form_parts}
 use Rattle.leaf_prover.specs.Answers.{answer_for, end_of, is_proved, values_of}
 use Rattle.leaf_prover.specs.Laws.{ProvedDerives, ProvedIsValid, ValuesFalsify, EnoughTurnsDecide, FewConnectivesDecide}
@@ -45,6 +45,7 @@ value-list : Answer → Option (List Bool)
 value-list (Proved k) = None
 value-list (Saturated vs k) = vs
 value-list (Spent k) = None
+value-list Cached = None
 
 saturated-end : (c : Canon) (e : End) (values : List Bool) (turns : ℕ) → answer_for c e ≡ Saturated (Some values) turns → (b : Branch) × (k : ℕ) × (e ≡ Open b k) × (values_of c b ≡ Some values)
 unfolding value-list
