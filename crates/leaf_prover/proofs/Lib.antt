@@ -7,3 +7,4 @@ mod SearchLaws
 mod ProofLaws
 mod NodeLaws
 mod Saying
+mod Deriving

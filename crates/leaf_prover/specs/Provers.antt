@@ -2,7 +2,7 @@
 -- that is no form is not searched.
 use Rattle.std.specs.Prelude.{◌≡◌, ℕ, Bool, true, false, List, [], ◌∷◌, Option, Some, None, if◌then◌else◌}
 use Rattle.core_expr.specs.declared.canon.Canon.{Canon}
-use Rattle.seq_calculus.specs.Calculus.{Correct}
+use Rattle.seq_calculus.specs.Calculus.{Correct, Der}
 use Rattle.seq_calculus.specs.Lists.{Lists}
 use Rattle.seq_calculus.specs.Steps.{proof_of}
 use Rattle.proof_cache.specs.declared.verdict.Verdict.{Verdict}
@@ -57,6 +57,14 @@ RightIsAnswered = (ps : List Lists) (n : ℕ) (c : Canon) (v : Verdict) → IsAn
 abbrev pub ProofsAreCorrect : Type 0
 ProofsAreCorrect =
     (ps : List Lists) (n : ℕ) (c : Canon) (p : Lists) (turns : ℕ) (cached : Bool) → IsAnswered ps n c (verdict.Proved p turns cached) → Correct (proof_of p) c.facts (c.goal ∷ [])
+
+-- the goal of a form that is answered as proved has a derivation from its facts, whatever is kept
+abbrev pub AnsweredDerives : Type 0
+AnsweredDerives = (ps : List Lists) (n : ℕ) (c : Canon) → is_proved (answered ps n c) ≡ true → Der c.facts (c.goal ∷ [])
+
+-- what is answered as saturated is so by the search
+abbrev pub SaturatedIsSearched : Type 0
+SaturatedIsSearched = (ps : List Lists) (n : ℕ) (c : Canon) (values : Option (List Bool)) (turns : ℕ) → answered ps n c ≡ Saturated values turns → answer n c ≡ Saturated values turns
 
 -- where nothing is kept, a form is searched
 abbrev pub NoneKeptIsSearched : Type 0

@@ -1,7 +1,8 @@
 //! What answers mean. The functions do nothing: their contracts are the laws.
 ghost use Rattle.leaf_prover.specs.Laws.{ProvedDerives, ProvedIsValid, ValuesFalsify, EnoughTurnsDecide, FewConnectivesDecide};
-ghost use Rattle.leaf_prover.specs.Provers.{RightIsAnswered, ProofsAreCorrect, NoneKeptIsSearched, CacheKeepsProved};
+ghost use Rattle.leaf_prover.specs.Provers.{RightIsAnswered, ProofsAreCorrect, AnsweredDerives, SaturatedIsSearched, NoneKeptIsSearched, CacheKeepsProved};
 
+use cache_hit::hit_is_correct;
 use proof_trees::loop_proves;
 use propositional_laws::{
     closed_is_valid, decides_propositional, few_connectives, forms_are_formulas, turns_suffice,
@@ -14,6 +15,16 @@ pub fn proved_derives()
     ensures { ProvedDerives }
 {
     loop_proves();
+}
+
+/// So has that of a form that is answered as proved, whatever the cache holds; what is saturated is so by the search.
+#[tactic(auto, using(crate::proofs::Deriving::answered_derives, crate::proofs::Deriving::saturated_is_searched))]
+pub fn answered_derives()
+    ensures derives { AnsweredDerives }
+    ensures searched { SaturatedIsSearched }
+{
+    proved_derives();
+    hit_is_correct();
 }
 
 /// No valuation falsifies a propositional form that is proved, and the values of a saturated answer falsify theirs.

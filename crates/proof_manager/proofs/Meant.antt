@@ -12,6 +12,7 @@ use Rattle.obligation.specs.declared.obligation.Obligation.{Obligation}
 use Rattle.obligation.specs.Unfolding.{unfolded}
 use Rattle.module_scope.specs.Resolution.{resolution}
 use Rattle.module_shelf.specs.Loading.{Outcome, followed, loading}
+use Rattle.seq_calculus.specs.Lists.{Lists}
 use Rattle.proof_contexts.specs.declared.leaf.Leaf.{Leaf}
 use Rattle.proof_contexts.specs.declared.leaf.LeafKind.{LeafKind}
 use Rattle.proof_contexts.specs.declared.leaf.LeafKind.TheVariants as kind
@@ -27,11 +28,11 @@ use Rattle.proof_assembly.specs.Laws.{StatusesAreJustified, EachDerives}
 use Rattle.reading_places.specs.Laws.{ReadPlacesDiffer}
 use Rattle.propositional_laws.specs.Laws.{HasTurns, FewConnectives}
 use Rattle.leaf_prover.specs.declared.answer.Answer.{Answer as Searched}
-use Rattle.leaf_prover.specs.declared.answer.Answer.TheVariants.{Proved, Saturated, Spent}
+use Rattle.leaf_prover.specs.declared.answer.Answer.TheVariants.{Proved, Saturated, Spent, Cached}
 use Rattle.leaf_prover.specs.Forms.{is_form}
 use Rattle.leaf_prover.specs.Answers.{answer, is_proved}
-use Rattle.leaf_prover.specs.Provers.{answered_where}
-use Rattle.leaf_prover.specs.Laws.{ProvedDerives, ProvedIsValid, ValuesFalsify, EnoughTurnsDecide}
+use Rattle.leaf_prover.specs.Provers.{answered, answered_where, AnsweredDerives, SaturatedIsSearched, CacheKeepsProved}
+use Rattle.leaf_prover.specs.Laws.{ProvedIsValid, ValuesFalsify, EnoughTurnsDecide}
 use Rattle.leaf_forms.specs.Leaves.{OfKind, OfLeaves, OfTheorems, OfChapters}
 use Rattle.leaf_forms.specs.Laws.{IsForm, LeavesAreForms}
 use Rattle.status_report.specs.declared.table.TheoremIn.{TheoremIn}
@@ -47,7 +48,7 @@ use Rattle.leaf_jobs.specs.Judging.{judged_kind, judged_leaf, judged_theorem, ju
 use Rattle.leaf_jobs.specs.Laws.{StatusesOfFront, FrontsAreProved}
 use Rattle.command_words.specs.Requests.{Asked}
 use Rattle.proof_manager.specs.Reading.{Answer, and_then, Read, modules_fault, resolved, checked, read_of, as_outcome, reading}
-use Rattle.proof_manager.specs.Runs.{given_for, IsRead, as_came, came, told}
+use Rattle.proof_manager.specs.Runs.{given_for, IsRead, Proofs, as_came, came, told}
 use Rattle.proof_manager.specs.Causes.{IsJustForm, IsDecidedForm, ReadsAreJust}
 use Rattle.proof_manager.proofs.Counting.{forms_are_numbered}
 use Rattle.proof_manager.proofs.Loaded.{loads-apart}
@@ -163,22 +164,24 @@ read-right places a folder r e =
 
 -- ---- theorems
 
--- a form counts as proved only where the search proves it, and so has a derivation
-came-proved : (b : Bool) (n : ℕ) (c : Canon) → as_verdict (as_came (answered_where b n c)) ≡ Verdict.Proved → (b ≡ true) × (is_proved (answer n c) ≡ true)
-came-proved true n c e = (refl, by (answer n c) e)
-  where
-    by : (x : Searched) → as_verdict (as_came x) ≡ Verdict.Proved → is_proved x ≡ true
-    by (Proved turns) e = refl
-    by (Saturated values turns) e = absurd cc
-    by (Spent turns) e = absurd cc
-came-proved false n c e = absurd cc
+-- a form counts as proved only where it is answered so, and so has a derivation
+came-proved : (x : Searched) → as_verdict (as_came x) ≡ Verdict.Proved → is_proved x ≡ true
+came-proved (Proved turns) e = refl
+came-proved (Saturated values turns) e = absurd cc
+came-proved (Spent turns) e = absurd cc
+came-proved Cached e = refl
 
-sound : ProvedDerives → (lost_ones : Canon → Bool) (n : ℕ) → IsSound (λ c. as_verdict (with_lost lost_ones (came n) c))
-sound derives lost_ones n c e = by (lost_ones c) e
+sound : AnsweredDerives → (ps : Proofs) (lost_ones : Canon → Bool) (n : ℕ) → IsSound (λ c. as_verdict (with_lost lost_ones (came ps n) c))
+sound derives ps lost_ones n c e =
+    by (lost_ones c) e
   where
-    by : (b : Bool) → as_verdict (if b then lost else came n c) ≡ Verdict.Proved → IsDerived c
+    by : (b : Bool) → as_verdict (if b then lost else came ps n c) ≡ Verdict.Proved → IsDerived c
     by true e = absurd cc
-    by false e = let p = came-proved (is_form c) n c e in derives n c p.0 p.1
+    by false e = derives (ps c) n c (came-proved (answered (ps c) n c) e)
+
+-- what the search proves is proved whatever is kept
+no-less : CacheKeepsProved → (ps : List Lists) (n : ℕ) (c : Canon) → is_form c ≡ true → is_proved (answer n c) ≡ true → is_proved (answered ps n c) ≡ true
+no-less keeps ps n c f e = keeps ps n c (ap (λ b. is_proved (answered_where b [] n c)) f ∙ e)
 
 -- what is so of all theorems that are proved is so of those of a front
 front-derives : (table : List Definition) (xs : List Theorem) (rs ss : List Status) → StatusesOfFront rs ss → EachDerives table xs ss → EachDerives table xs rs
@@ -187,24 +190,24 @@ front-derives table (x ∷ xs) [] ss f h = tt
 front-derives table (x ∷ xs) (r ∷ rs) [] f h = absurd f
 front-derives table (x ∷ xs) (r ∷ rs) (s ∷ ss) f h = (λ p. h.0 (f.0 p), front-derives table xs rs ss f.1 h.1)
 
-told-derives : StatusesAreJustified → StatusesAgree → ChaptersReport → FrontsAreProved → ProvedDerives → (a : Asked) (r : Read) → IsRight r → NamesDiffer r.modules → (lost_ones : Canon → Bool)
-    → EachDerives (definitions_of r.modules r.table) (all_theorems r.modules r.table) (statuses_of (told lost_ones a r).0)
-told-derives justified agree report fronts derives a r h names lost_ones =
+told-derives : StatusesAreJustified → StatusesAgree → ChaptersReport → FrontsAreProved → AnsweredDerives → (a : Asked) (r : Read) → IsRight r → NamesDiffer r.modules → (ps : Proofs) (lost_ones : Canon → Bool)
+    → EachDerives (definitions_of r.modules r.table) (all_theorems r.modules r.table) (statuses_of (told ps lost_ones a r).0)
+told-derives justified agree report fronts derives a r h names ps lost_ones =
     let table = definitions_of r.modules r.table in
     let is_theorem = is_theorem_of r.modules r.table in
     let theorems = all_theorems r.modules r.table in
-    let f = with_lost lost_ones (came a.turns) in
+    let f = with_lost lost_ones (came ps a.turns) in
     let js = judged f r.table.entries (chapters_of r.modules r.table) in
     let on : Canon → Verdict = λ c. as_verdict (f c) in
-    front-derives table theorems (statuses_of (told lost_ones a r).0) (statuses_of js) (fronts a.stop js)
+    front-derives table theorems (statuses_of (told ps lost_ones a r).0) (statuses_of js) (fronts a.stop js)
     (subst (EachDerives table theorems)
     (sym (agree table is_theorem on (reported_theorems js) theorems (chapters-stand f r.table.entries table is_theorem (chapters_of r.modules r.table) theorems (report r.modules r.table))))
-    (justified r.modules r.table on h.resolved names h.apart (sound derives lost_ones a.turns)))
+    (justified r.modules r.table on h.resolved names h.apart (sound derives ps lost_ones a.turns)))
 
 -- ---- all that is read
 
-pub reads_are_just : ReadPlacesDiffer → StatusesAreJustified → StatusesAgree → ChaptersReport → FrontsAreProved → ProvedDerives → ProvedIsValid → ValuesFalsify → EnoughTurnsDecide → FewConnectives → LeavesAreForms → ReadsAreJust
-reads_are_just places justified agree report fronts derives valid falsifies enough few forms a folder r e names =
+pub reads_are_just : ReadPlacesDiffer → StatusesAreJustified → StatusesAgree → ChaptersReport → FrontsAreProved → AnsweredDerives → SaturatedIsSearched → CacheKeepsProved → ProvedIsValid → ValuesFalsify → EnoughTurnsDecide → FewConnectives → LeavesAreForms → ReadsAreJust
+reads_are_just places justified agree report fronts derives searched keeps valid falsifies enough few forms a folder r e names =
     let h = read-right places a folder r e in
     let cs = chapters_of r.modules r.table in
     let all = forms r.modules r.table h.resolved h.apart in
@@ -213,9 +216,12 @@ reads_are_just places justified agree report fronts derives valid falsifies enou
         derived = told-derives justified agree report fronts derives a r h names;
         leaves = of-chapters (IsJustForm n) (λ o p. record {
           form = p;
-          derived = derives n (obligation_canon o) p;
+          derived = λ ps. derives ps n (obligation_canon o);
+          no_less = λ ps. no-less keeps ps n (obligation_canon o) p;
           valid = valid n (obligation_canon o);
-          falsified = falsifies n (obligation_canon o) (forms_are_numbered (map (unfolded o.defs) o.facts) (unfolded o.defs o.goal));
+          falsified = λ ps values turns e.
+          falsifies n (obligation_canon o) (forms_are_numbered (map (unfolded o.defs) o.facts) (unfolded o.defs o.goal)) values turns
+          (searched ps n (obligation_canon o) (Some values) turns e);
         }) cs all;
       },
       of-chapters (IsDecidedForm n) (λ o p. let c = obligation_canon o in record {

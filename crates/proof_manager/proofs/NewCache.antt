@@ -22,6 +22,7 @@ use Rattle.theorem_leaves.specs.Chapters.{chapters_of}
 use Rattle.status_report.specs.declared.table.ModuleIn.{ModuleIn}
 use Rattle.status_report.specs.Report.{has_memory_leaf}
 use Rattle.leaf_jobs.specs.Came.{Came, came_of, proved_by, with_lost}
+use Rattle.leaf_jobs.specs.Came.Came.{lost}
 use Rattle.leaf_jobs.specs.Forms.{forms_of}
 use Rattle.leaf_jobs.specs.Judging.{judged}
 use Rattle.leaf_jobs.specs.Laws.{WholeIsGiven, WholeFindsMemory}
@@ -119,5 +120,5 @@ module _ (ps : Proofs) (a : Asked) (r : Read) (jobs : List Canon) (vs : List (Op
         (next ∙ ap (λ b. made_where (is_some a.cache && not b) (file_of (job_records jobs vs))) stop) all;
         found = λ s m bytes out.
         same-out ps comes (with_lost no_form (came ps a.turns)) (jobs_of r) bytes
-        (λ i c at. ap (λ b. if b then Came.lost else came ps a.turns c) (memory a.stop lost_ones (came ps a.turns) r.table.entries cs s m i c at)) out;
+        (λ i c at. ap (λ b. if b then lost else came ps a.turns c) (memory a.stop lost_ones (came ps a.turns) r.table.entries cs s m i c at)) out;
       }

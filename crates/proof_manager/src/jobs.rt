@@ -19,7 +19,7 @@ use command_words::Request;
 use core_expr::Memory;
 use job_plan::{Plan, plan};
 use leaf_jobs::{Judged, forms, judge, whole_finds_memory, whole_is_given};
-use leaf_prover::{Engine, proofs_are_correct, right_is_answered};
+use leaf_prover::{Engine, right_is_answered};
 use proof_cache::{Cache, Limit};
 use std::alloc::Global;
 use std::thread::Threads;
@@ -95,7 +95,6 @@ pub fn judge_all<R: Threads + Sync, G: Gate>(
         (read_in checked.now)) }
 {
     right_is_answered();
-    proofs_are_correct();
     whole_is_given();
     whole_finds_memory();
     let chapters = checked.chapters.as_slice();
