@@ -7,20 +7,24 @@ use std::test::Fail;
 use std::thread::Threads;
 use tla_io::{MemCache, MemShelf, MemSink};
 
-/// One run: the modules of the shelf by name and text, the calls that fail, and the words behind the program's.
+/// One run: the modules of the shelf by name and text, the content of the cache's file `f`, the calls that fail, and the words behind the
+/// program's.
 #[derive(Clone, Copy)]
 pub struct Case<'a> {
     pub modules: &'a [(&'a str, &'a str)],
     pub words: &'a [&'a str],
     pub shelf_fails: &'a [u64],
     pub room: u64,
+    pub cache: &'a [u8],
+    pub cache_fails: &'a [u64],
 }
 
-/// What a run leaves: its exit status, the bytes that the sink took, and what it says on standard error.
+/// What a run leaves: its exit status, the bytes that the sink took, the content of the cache's file, and what it says on standard error.
 #[derive(Drop)]
 pub struct Outcome {
     pub code: u8,
     pub taken: Vec<u8>,
+    pub cache: Vec<u8>,
     pub said: Text,
 }
 
@@ -53,12 +57,15 @@ pub fn ran<R: Threads + Sync, G: Gate>(
 ) -> Result<Outcome, Fail> {
     let words = command(alloc, case.words)?;
     let mut shelf = shelf(alloc, case.modules, case.shelf_fails)?;
-    let mut cache = MemCache::new(Text::of(alloc, b"f")?, Vec::new(alloc), Vec::new(alloc));
+    let content = Vec::from_slice(alloc, case.cache)?;
+    let fails = Vec::from_slice(alloc, case.cache_fails)?;
+    let mut cache = MemCache::new(Text::of(alloc, b"f")?, content, fails);
     let mut sink = MemSink::new(alloc, case.room, 7, Vec::new(alloc))?;
     let status = run(rt, alloc, &words, &mut shelf, &mut cache, &mut sink, gate);
     Ok(Outcome {
         code: status.code(),
         taken: Vec::from_slice(alloc, sink.taken())?,
+        cache: Vec::from_slice(alloc, cache.content())?,
         said: status.text(alloc)?,
     })
 }

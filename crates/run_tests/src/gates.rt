@@ -80,6 +80,8 @@ fn shown<R: Threads + Sync, G: Gate>(
         words,
         shelf_fails: &[],
         room: 100,
+        cache: b"",
+        cache_fails: &[],
     };
     ran(rt, alloc, gate, &case)
 }

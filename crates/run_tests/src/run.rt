@@ -28,6 +28,8 @@ fn compare_modules<R: Abort + Threads + Sync>(
         words: &["M"],
         shelf_fails: &[],
         room: 400,
+        cache: b"",
+        cache_fails: &[],
     };
     let got = ran(rt, alloc, &Through, &case)?;
     let (taken, said) = if code < 2 { (want, "") } else { ("", want) };
@@ -319,6 +321,8 @@ fn devices_and_words_decide(rt: HostRuntime) -> Result<(), Fail> {
             words: &[*word],
             shelf_fails: *shelf_fails,
             room: *room,
+            cache: b"",
+            cache_fails: &[],
         };
         let got = ran(&rt, rt.alloc(), &Through, &case)?;
         assert_eq!(rt; got.code, *code, "{word}");

@@ -23,6 +23,8 @@ fn compare<R: Abort + Threads + Sync>(
             words: *words,
             shelf_fails: &[],
             room: 400,
+            cache: b"",
+            cache_fails: &[],
         };
         let got = ran(rt, alloc, &Through, &case)?;
         let (taken, said) = if *code < 2 { (*want, "") } else { ("", *want) };
