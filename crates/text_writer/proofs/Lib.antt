@@ -2,3 +2,4 @@ pub mod RowLaws
 pub mod PutLaws
 pub mod EnterLaws
 pub mod TreeLaws
+pub mod SharedLaws

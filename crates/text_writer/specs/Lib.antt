@@ -1,4 +1,5 @@
 pub mod Keys
 pub mod Tables
 pub mod Rows
+pub mod Shared
 pub mod Laws

@@ -9,6 +9,7 @@
 mod canon;
 mod laws;
 mod node;
+mod shared;
 mod table;
 
 pub use canon::write_canon;
