@@ -3,3 +3,5 @@ pub mod PutLaws
 pub mod EnterLaws
 pub mod TreeLaws
 pub mod SharedLaws
+pub mod RuleLaws
+pub mod StepLaws

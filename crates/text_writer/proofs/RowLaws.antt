@@ -21,12 +21,12 @@ take-front [] ps = refl
 take-front (q ∷ qs) ps = ap (λ rs. q ∷ rs) (take-front qs ps)
 
 -- places behind others are the last ones
-last-are : (n : ℕ) (qs ps : List ℕ) → n ≡ length ps → last_places n (qs ++ ps) ≡ ps
+pub last-are : (n : ℕ) (qs ps : List ℕ) → n ≡ length ps → last_places n (qs ++ ps) ≡ ps
 last-are n qs ps e =
     let q : length (qs ++ ps) - n ≡ length qs = omega (arith, length-append qs ps) in
     ap (λ k. drop k (qs ++ ps)) q ∙ drop-front qs ps
 
-below-are : (n : ℕ) (qs ps : List ℕ) → n ≡ length ps → below_last n (qs ++ ps) ≡ qs
+pub below-are : (n : ℕ) (qs ps : List ℕ) → n ≡ length ps → below_last n (qs ++ ps) ≡ qs
 below-are n qs ps e =
     let q : length (qs ++ ps) - n ≡ length qs = omega (arith, length-append qs ps) in
     ap (λ k. take k (qs ++ ps)) q ∙ take-front qs ps

@@ -9,8 +9,11 @@
 mod canon;
 mod laws;
 mod node;
+mod proof;
 mod shared;
+mod step;
 mod table;
+mod task;
 
 pub use canon::write_canon;
 pub use laws::canon_is_shown;
