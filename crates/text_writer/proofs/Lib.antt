@@ -5,3 +5,5 @@ pub mod TreeLaws
 pub mod SharedLaws
 pub mod RuleLaws
 pub mod StepLaws
+pub mod ApartLaws
+pub mod FitLaws

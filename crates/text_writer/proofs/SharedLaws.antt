@@ -1,11 +1,11 @@
 -- The trees of nodes that share their parts, entered into another table.
-use Rattle.std.proofs.Common.{◌≡◌, ℕ, zero, suc, ◌+◌, ◌<◌, Bool, true, false, nat_eq, List, [], ◌∷◌, ◌++◌, length, map, get_or, set, Option, Some, None, refl, ap, sym, ◌∙◌, subst, arith, get_or-set_same, get_or-set_other, eq-eqb, eqb-true}
+use Rattle.std.proofs.Common.{◌≡◌, ℕ, zero, suc, ◌+◌, ◌<◌, Bool, true, false, nat_eq, List, [], ◌∷◌, ◌++◌, length, map, get_or, set, Option, Some, None, refl, ap, sym, ◌∙◌, subst, subst₂, arith, get_or-set_same, get_or-set_other, eq-eqb, eqb-true}
 use Rattle.std.specs.Prelude.{IsTrue, slice_set}
 use Rattle.std.proofs.lemmas.List.{length-map, length-set}
 use Rattle.core_expr.specs.Tree.{Tree, true_}
 use Rattle.core_expr.specs.Heads.{subtrees}
 use Rattle.core_expr.specs.Places.{kind_of, root_numbers}
-use Rattle.core_expr.specs.Nodes.{Node, AreBelow, picked, node_fits, tree_over}
+use Rattle.core_expr.specs.Nodes.{Node, AreBelow, picked, node_fits, node_make, tree_over}
 use Rattle.core_expr.specs.Laws.{NodeShows, ShowsNode}
 use Rattle.seq_calculus.specs.declared.lists.ProofNode.{ProofNode}
 use Rattle.seq_calculus.specs.Lists.{node_of}
@@ -37,22 +37,33 @@ abbrev pub node_at : List ProofNode → ℕ → List ℕ → ProofNode
 node_at ns i ps = record { head = (get_or ns i no_node).head; numbers = (get_or ns i no_node).numbers; parts = ps }
 
 -- the parts of a node stand before it
-pub node-below : (ns : List ProofNode) → IsTable ns → (i : ℕ) → i < length ns → AreBelow (length ns) (parts_at ns i)
-node-below ns h i l =
+pub node-before : (ns : List ProofNode) → IsTable ns → (i : ℕ) → i < length ns → AreBelow i (parts_at ns i)
+node-before ns h i l =
     let f = node-form (map node_of ns) (node_of no_node) 0 i h (omega (arith, l, length-map ns node_of)) in
-    below-wider (0 + i) (length ns) (parts_at ns i) (omega arith) (subst (λ (n : Node). AreBelow (0 + i) n.parts) (node-at ns i) f.1)
+    let e : 0 + i ≡ i = omega arith in
+    subst₂ (λ k (n : Node). AreBelow k n.parts) e (node-at ns i) f.1
+
+pub node-below : (ns : List ProofNode) → IsTable ns → (i : ℕ) → i < length ns → AreBelow (length ns) (parts_at ns i)
+node-below ns h i l = below-wider i (length ns) (parts_at ns i) (omega arith) (node-before ns h i l)
+
+module _ (ns : List ProofNode) (h : IsTable ns) (i : ℕ) (l : i < length ns) where
+  -- a node's tree is made of those of its parts
+  pub node-made : tree_in ns i ≡ node_make (get_or ns i no_node).head (get_or ns i no_node).numbers (parts_in ns i)
+  node-made =
+      tree-at (map node_of ns) (node_of no_node) i h (omega (arith, l, length-map ns node_of)) ∙ ap (tree_over (trees_in ns)) (node-at ns i)
+
+  pub node-fits : IsTrue (node_fits (get_or ns i no_node).head (get_or ns i no_node).numbers (length (parts_in ns i)))
+  node-fits =
+      let f = node-form (map node_of ns) (node_of no_node) 0 i h (omega (arith, l, length-map ns node_of)) in
+      let n : ProofNode = get_or ns i no_node in
+      let g : IsTrue (node_fits n.head n.numbers (length n.parts)) = subst (λ (k : Node). IsTrue (node_fits k.head k.numbers (length k.parts))) (node-at ns i) f.0 in
+      subst (λ k. IsTrue (node_fits n.head n.numbers k)) (sym (length-picked (trees_in ns) n.parts)) g
 
 module _ (law : NodeShows) (ns : List ProofNode) (h : IsTable ns) (i : ℕ) (l : i < length ns) where
   node-shown : ShowsNode (get_or ns i no_node).head (get_or ns i no_node).numbers (parts_in ns i) (tree_in ns i)
   node-shown =
       let n : ProofNode = get_or ns i no_node in
-      let m : i < length (map node_of ns) = omega (arith, l, length-map ns node_of) in
-      let f = node-form (map node_of ns) (node_of no_node) 0 i h m in
-      let e = node-at ns i in
-      let fit : IsTrue (node_fits n.head n.numbers (length n.parts)) = subst (λ (k : Node). IsTrue (node_fits k.head k.numbers (length k.parts))) e f.0 in
-      let t = tree-at (map node_of ns) (node_of no_node) i h m ∙ ap (tree_over (trees_in ns)) e in
-      let s = law n.head n.numbers (parts_in ns i) (subst (λ k. IsTrue (node_fits n.head n.numbers k)) (sym (length-picked (trees_in ns) n.parts)) fit) in
-      subst (ShowsNode n.head n.numbers (parts_in ns i)) (sym t) s
+      subst (ShowsNode n.head n.numbers (parts_in ns i)) (sym (node-made ns h i l)) (law n.head n.numbers (parts_in ns i) (node-fits ns h i l))
 
   -- a node's tree is entered as those of its parts and then the node
   pub enter-node : (table : List ProofNode) → (let a = enter_all (parts_in ns i) table in enter (tree_in ns i) table ≡ put (node_at ns i a.places) a.nodes)

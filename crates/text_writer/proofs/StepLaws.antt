@@ -20,7 +20,7 @@ use Rattle.text_writer.proofs.RuleLaws.{kept_as, kept-step}
 use Rattle.text_writer.proofs.SharedLaws.{below-append}
 use Rattle.text_writer.proofs.TreeLaws.{below-wider}
 
-same-proofs : (n : ℕ) (ps qs : List Proof) (is : List ℕ) → AreBelow n is → ((j : ℕ) → j < n → get_or ps j no_proof ≡ get_or qs j no_proof) → proofs_at ps is ≡ proofs_at qs is
+pub same-proofs : (n : ℕ) (ps qs : List Proof) (is : List ℕ) → AreBelow n is → ((j : ℕ) → j < n → get_or ps j no_proof ≡ get_or qs j no_proof) → proofs_at ps is ≡ proofs_at qs is
 same-proofs n ps qs [] b e = refl
 same-proofs n ps qs (i ∷ is) b e = λ k. more (e i b.0 k) (same-proofs n ps qs is b.1 e k)
 
