@@ -1,5 +1,5 @@
 -- Numbers that stand at most once, by how often each stands.
-use Rattle.std.proofs.Common.{◌≡◌, ℕ, suc, ◌+◌, ◌<◌, ◌≤◌, Bool, true, false, cond, nat_eq, List, [], ◌∷◌, ◌++◌, refl, ap, sym, ◌∙◌, subst, arith, eq-eqb, eqb-true, ◌⊎◌, inl, inr}
+use Rattle.std.proofs.Common.{◌≡◌, ℕ, suc, ◌+◌, ◌<◌, ◌≤◌, Bool, true, false, cond, nat_eq, List, [], ◌∷◌, ◌++◌, refl, ap, sym, subst, arith, eq-eqb, eqb-true, ◌⊎◌, inl, inr}
 use Rattle.std.proofs.lemmas.Bool.{cases_order}
 use Rattle.core_expr.specs.Nodes.{AreBelow}
 use Rattle.seq_calculus.specs.Lists.{IsApart, AreApart}

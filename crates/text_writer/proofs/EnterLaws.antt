@@ -1,6 +1,5 @@
 -- Entering trees adds to a table, and a tree that was entered stands there.
-use Rattle.std.proofs.Common.{◌≡◌, ℕ, List, [], ◌∷◌, ◌++◌, refl, ap, sym, ◌∙◌}
-use Rattle.core_expr.specs.declared.row.RowKind.{RowKind}
+use Rattle.std.proofs.Common.{◌≡◌, ℕ, List, [], ◌∷◌, ◌++◌, refl, ap, ◌∙◌}
 use Rattle.core_expr.specs.Tree.{Tree, Parts}
 use Rattle.core_expr.specs.Tree.Tree.{bound, app, node, bind}
 use Rattle.core_expr.specs.Tree.Parts.{end, part}

@@ -7,12 +7,11 @@ use Rattle.core_expr.specs.Heads.{are_well_formed, are_canonical, parts_of}
 use Rattle.core_expr.specs.Nodes.{AreBelow, picked}
 use Rattle.core_expr.specs.Laws.{NodeIsCanonical}
 use Rattle.seq_calculus.specs.declared.lists.ProofNode.{ProofNode}
-use Rattle.seq_calculus.specs.declared.lists.ProofStep.{ProofStep}
 use Rattle.seq_calculus.specs.Calculus.{Rule, Proof, Proofs}
 use Rattle.seq_calculus.specs.Calculus.Proof.{step}
 use Rattle.seq_calculus.specs.Calculus.Proofs.{no_more, more}
 use Rattle.seq_calculus.specs.Lists.{Lists, AreLists, step_fits, expression_counts, premise_counts}
-use Rattle.seq_calculus.specs.Steps.{rule_of, no_proof, proofs_at, proofs_of, table_of}
+use Rattle.seq_calculus.specs.Steps.{rule_of, proofs_at, proofs_of, table_of}
 use Rattle.proof_text.specs.Frames.{no_node, parts_at}
 use Rattle.proof_text.specs.Texts.{trees_in, tree_in}
 use Rattle.proof_text.proofs.TableTrees.{length-picked}
@@ -20,7 +19,7 @@ use Rattle.text_writer.specs.Proofs.{Kept, kept}
 use Rattle.text_writer.specs.Tasks.{step_at, proof_at}
 use Rattle.text_writer.proofs.TreeLaws.{IsTable, IsRight, AreRight}
 use Rattle.text_writer.proofs.SharedLaws.{parts_in, node-made, node-fits, node-before}
-use Rattle.text_writer.proofs.RuleLaws.{kept_as, kept-step}
+use Rattle.text_writer.proofs.RuleLaws.{kept-step}
 use Rattle.text_writer.proofs.StepLaws.{step-is, proof-is}
 
 -- ---- the trees of a table

@@ -7,3 +7,4 @@ pub mod RuleLaws
 pub mod StepLaws
 pub mod ApartLaws
 pub mod FitLaws
+pub mod MadeLaws

@@ -1,10 +1,8 @@
 -- The trees of nodes that share their parts, entered into another table.
-use Rattle.std.proofs.Common.{◌≡◌, ℕ, zero, suc, ◌+◌, ◌<◌, Bool, true, false, nat_eq, List, [], ◌∷◌, ◌++◌, length, map, get_or, set, Option, Some, None, refl, ap, sym, ◌∙◌, subst, subst₂, arith, get_or-set_same, get_or-set_other, eq-eqb, eqb-true}
+use Rattle.std.proofs.Common.{◌≡◌, ℕ, ◌+◌, ◌<◌, Bool, true, false, nat_eq, List, [], ◌∷◌, ◌++◌, length, map, get_or, set, Option, Some, None, refl, ap, sym, ◌∙◌, subst, subst₂, arith, get_or-set_same, get_or-set_other, eq-eqb, eqb-true}
 use Rattle.std.specs.Prelude.{IsTrue, slice_set}
 use Rattle.std.proofs.lemmas.List.{length-map, length-set}
-use Rattle.core_expr.specs.Tree.{Tree, true_}
-use Rattle.core_expr.specs.Heads.{subtrees}
-use Rattle.core_expr.specs.Places.{kind_of, root_numbers}
+use Rattle.core_expr.specs.Tree.{Tree}
 use Rattle.core_expr.specs.Nodes.{Node, AreBelow, picked, node_fits, node_make, tree_over}
 use Rattle.core_expr.specs.Laws.{NodeShows, ShowsNode}
 use Rattle.seq_calculus.specs.declared.lists.ProofNode.{ProofNode}
@@ -12,10 +10,10 @@ use Rattle.seq_calculus.specs.Lists.{node_of}
 use Rattle.proof_text.specs.Frames.{no_node, parts_at}
 use Rattle.proof_text.specs.Texts.{trees_in, tree_in}
 use Rattle.proof_text.proofs.TableTrees.{tree-at, node-form, length-picked}
-use Rattle.text_writer.specs.Tables.{Placed, AllPlaced, put, node_over, root, enter, enter_all}
+use Rattle.text_writer.specs.Tables.{Placed, AllPlaced, put, root, enter, enter_all}
 use Rattle.text_writer.specs.Shared.{here, enter_last_first, last_first, place_of, AreNoted, ArePlaces}
-use Rattle.text_writer.proofs.PutLaws.{Extends, same, join}
-use Rattle.text_writer.proofs.EnterLaws.{here_all, extends, extends-all, again, again-all, enter-listed}
+use Rattle.text_writer.proofs.PutLaws.{Extends, same}
+use Rattle.text_writer.proofs.EnterLaws.{here_all, extends, again, again-all, enter-listed}
 use Rattle.text_writer.proofs.TreeLaws.{IsTable, node-at, below-wider}
 
 pub enter-append : (ns : List ProofNode) (is js : List ℕ) (a : Placed) → enter_last_first ns (is ++ js) a ≡ enter_last_first ns is (enter_last_first ns js a)
@@ -116,9 +114,9 @@ noted-more ns table places i new l n e = record {
     go j p h true t =
         let q : j ≡ i = eqb-true j i t in
         let w : new.place ≡ p =
-            (let f : place_of (set places i (Some new.place)) i ≡ Some new.place = get_or-set_same places i (Some new.place) None (omega (arith, l, n.count)) in
-             let g : place_of (set places i (Some new.place)) i ≡ Some p = ap (place_of (set places i (Some new.place))) (sym q) ∙ h in
-             cc) in
+        (let f : place_of (set places i (Some new.place)) i ≡ Some new.place = get_or-set_same places i (Some new.place) None (omega (arith, l, n.count)) in
+        let g : place_of (set places i (Some new.place)) i ≡ Some p = ap (place_of (set places i (Some new.place))) (sym q) ∙ h in
+        cc) in
         ap (λ k. enter (tree_in ns k) new.nodes) q ∙ ap (λ (x : Placed). enter (tree_in ns i) x.nodes) (sym e) ∙ again (tree_in ns i) table (enter (tree_in ns i) table).nodes (same (enter (tree_in ns i) table).nodes)
         ∙ (λ k. here (e k).nodes (e k).place) ∙ ap (here new.nodes) w
     go j p h false t =

@@ -1,22 +1,21 @@
 -- The steps of a proof are entered by tasks as its tree is.
-use Rattle.std.proofs.Common.{◌≡◌, ℕ, zero, suc, ◌+◌, ◌-◌, ◌<◌, List, [], ◌∷◌, ◌++◌, length, map, get_or, refl, ap, sym, ◌∙◌, subst, arith, append_assoc, append-nil}
+use Rattle.std.proofs.Common.{◌≡◌, ℕ, zero, suc, ◌+◌, ◌<◌, List, [], ◌∷◌, ◌++◌, length, map, get_or, refl, ap, sym, ◌∙◌, subst, arith, append_assoc, append-nil}
 use Rattle.std.proofs.lemmas.List.{get_or_append_left, get_or_at, length_push}
 use Rattle.core_expr.specs.Tree.{Tree}
 use Rattle.core_expr.specs.Nodes.{AreBelow, picked}
 use Rattle.seq_calculus.specs.declared.lists.ProofStep.{ProofStep}
-use Rattle.seq_calculus.specs.Calculus.{Rule, Proof, Proofs}
+use Rattle.seq_calculus.specs.Calculus.{Proof}
 use Rattle.seq_calculus.specs.Calculus.Proof.{step}
-use Rattle.seq_calculus.specs.Calculus.Proofs.{no_more, more}
+use Rattle.seq_calculus.specs.Calculus.Proofs.{more}
 use Rattle.seq_calculus.specs.Lists.{Lists, AreLists, AreSteps, IsStep}
 use Rattle.seq_calculus.specs.Steps.{rule_of, no_proof, proofs_at, proof_in, proofs_from, proofs_of, table_of}
 use Rattle.proof_text.proofs.TableTrees.{length-picked}
 use Rattle.text_writer.specs.declared.task.Task.{Task}
 use Rattle.text_writer.specs.declared.task.Task.TheVariants.{Visit, Finish}
-use Rattle.text_writer.specs.Rows.{below_last, last_places}
-use Rattle.text_writer.specs.Proofs.{Kept, Entered, AllEntered, kept, with_step, enter_proof, enter_proofs}
-use Rattle.text_writer.specs.Tasks.{no_step, step_at, proof_at, behind, kept_step, finished, act, acts, visits, step_of}
+use Rattle.text_writer.specs.Proofs.{Kept, AllEntered, with_step, enter_proof, enter_proofs}
+use Rattle.text_writer.specs.Tasks.{no_step, step_at, proof_at, behind, kept_step, act, acts, visits, step_of}
 use Rattle.text_writer.proofs.RowLaws.{last-are, below-are}
-use Rattle.text_writer.proofs.RuleLaws.{kept_as, kept-step}
+use Rattle.text_writer.proofs.RuleLaws.{kept-step}
 use Rattle.text_writer.proofs.SharedLaws.{below-append}
 use Rattle.text_writer.proofs.TreeLaws.{below-wider}
 

@@ -18,9 +18,8 @@ use Rattle.proof_text.specs.Texts.{trees_in, tree_in, AreCanonical}
 use Rattle.proof_text.proofs.TableTrees.{trees-count, tree-at, length-picked}
 use Rattle.text_writer.specs.Keys.{same_node}
 use Rattle.text_writer.specs.Laws.{AreWellFormed, CanonIsShown}
-use Rattle.text_writer.specs.Shared.{here}
 use Rattle.text_writer.specs.Tables.{Placed, AllPlaced, node_over, root, put, with_last, enter, enter_parts, enter_all, table_of, obligation_of, canon_list}
-use Rattle.text_writer.proofs.PutLaws.{Extends, same, join, seek-some, put-there, put-new}
+use Rattle.text_writer.proofs.PutLaws.{Extends, seek-some, put-there, put-new}
 use Rattle.text_writer.proofs.EnterLaws.{here_all, extends, extends-parts, extends-all}
 
 trees-split : (ts : List Tree) (ns ms : List Node) → trees_from ts (ns ++ ms) ≡ trees_from (trees_from ts ns) ms

@@ -1,4 +1,4 @@
-use Rattle.std.proofs.Common.{◌≡◌, ℕ, List, [], ◌∷◌, ◌++◌, ◌-◌, length, map, ap, sym, ◌∙◌, subst, arith, rules}
+use Rattle.std.proofs.Common.{◌≡◌, [], ◌∷◌, length, map, ap, sym, ◌∙◌, subst, rules}
 use Rattle.core_expr.specs.Nodes.{AreBelow}
 use Rattle.seq_calculus.specs.Steps.{proof_of}
 use Rattle.text_writer.specs.Proofs.{AllEntered, enter_proof, no_lists}

@@ -1,4 +1,4 @@
-use Rattle.std.proofs.Common.{◌≡◌, ℕ, List, ◌++◌, [], ◌∷◌, length, ap, sym, ◌∙◌, subst}
+use Rattle.std.proofs.Common.{[], ◌∷◌, length, ap, sym, ◌∙◌, subst}
 use Rattle.core_expr.specs.Nodes.{AreBelow}
 use Rattle.text_writer.specs.Shared.{here, enter_last_first}
 use Rattle.text_writer.proofs.SharedLaws.{enter-append, below-split}

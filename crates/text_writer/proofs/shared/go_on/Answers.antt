@@ -1,4 +1,4 @@
-use Rattle.std.proofs.Common.{◌≡◌, ℕ, ◌<◌, ◌++◌, [], ◌∷◌, length, get_or, ap, sym, ◌∙◌, subst, subst₂, arith, refl, None}
+use Rattle.std.proofs.Common.{◌≡◌, ◌++◌, [], ◌∷◌, length, ap, sym, ◌∙◌, subst, subst₂, arith, None}
 use Rattle.std.proofs.lemmas.List.{get_or_default}
 use Rattle.core_expr.specs.Nodes.{AreBelow}
 use Rattle.proof_text.specs.Frames.{no_node, parts_at}

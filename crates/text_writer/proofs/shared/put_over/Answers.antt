@@ -4,7 +4,7 @@ use Rattle.proof_text.specs.Frames.{no_node}
 use Rattle.proof_text.specs.Texts.{tree_in}
 use Rattle.text_writer.specs.Tables.{enter}
 use Rattle.text_writer.specs.Shared.{here}
-use Rattle.text_writer.proofs.SharedLaws.{node_at, puts, noted-more}
+use Rattle.text_writer.proofs.SharedLaws.{puts, noted-more}
 use Rattle.text_writer.proofs.shared.put_over.Goals as goal
 use Rattle.text_writer.proofs.shared.put_over.Goals.{In_ok-place}
 
