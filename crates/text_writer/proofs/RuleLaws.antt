@@ -1,10 +1,10 @@
 -- A step's rule is kept as the step has it.
-use Rattle.std.proofs.Common.{◌≡◌, ℕ, zero, suc, ◌+◌, ◌<◌, Bool, true, cond, nat_eq, nat_lt, ◌&&◌, List, [], ◌∷◌, ◌++◌, length, get_or, take, drop, refl, ap, ◌∙◌, subst, arith, eqb-true, length-drop, take-append-drop}
+use Rattle.std.proofs.Common.{◌≡◌, ℕ, zero, suc, ◌+◌, ◌<◌, Bool, true, cond, nat_eq, nat_lt, ◌&&◌, List, [], ◌∷◌, ◌++◌, length, get_or, take, drop, map, refl, ap, sym, ◌∙◌, subst, arith, eqb-true, append_assoc, length-append, length-drop, take-append-drop}
 use Rattle.std.specs.Prelude.{IsTrue}
 use Rattle.std.proofs.lemmas.Bool.{and_parts}
 use Rattle.std.proofs.lemmas.Bool.Decides.{nat_tests}
-use Rattle.std.proofs.lemmas.List.{length-take-le}
-use Rattle.core_expr.specs.Tree.{Tree}
+use Rattle.std.proofs.lemmas.List.{length-take-le, get_or_at, nil_from_length}
+use Rattle.core_expr.specs.Tree.{Tree, true_}
 use Rattle.seq_calculus.specs.declared.lists.ProofStep.{ProofStep}
 use Rattle.seq_calculus.specs.Lists.{step_fits, expression_counts, premise_counts}
 use Rattle.seq_calculus.specs.Steps.{Reading, readings, rule_of, operand, alone}
@@ -32,48 +32,23 @@ row-at i [] k r d h l e = absurd (omega arith)
 row-at i (f ∷ fs) zero r d h l e = let z : i ≡ r = omega arith in subst (λ r. Row r f) z h.0
 row-at i (f ∷ fs) (suc k) r d h l e = row-at (suc i) fs k r d h.1 (omega arith) (omega arith)
 
-none : (ns : List ℕ) → length ns ≡ 0 → [] ≡ ns
-none [] e = refl
-none (n ∷ ns) e = absurd (omega arith)
+abbrev from : ℕ → ℕ → List ℕ
+from i zero = []
+from i (suc n) = i ∷ from (suc i) n
 
-row : (r n : ℕ) (ns : List ℕ) (es fs : List Tree) → (length es ≡ n → fs ≡ es) → (nat_eq (length ns) 0 && nat_eq (length es) n) ≡ true → plain r fs ≡ kept_as r ns es
-row r n ns es fs f h =
+-- the expressions, one by one
+listed : (us es : List Tree) (i : ℕ) → length us ≡ i → map (operand (us ++ es)) (from i (length es)) ≡ es
+listed us [] i e = refl
+listed us (t ∷ es) i e =
+    let r = ap (λ ts. map (operand ts) (from (suc i) (length es))) (sym (append_assoc us (t ∷ []) es)) ∙ listed (us ++ t ∷ []) es (suc i) (omega (arith, length-append us (t ∷ []))) in
+    λ j. get_or_at us t es true_ i e j ∷ r j
+
+-- a rule without numbers and with n expressions
+row : (r n : ℕ) (ns : List ℕ) (es : List Tree) → (nat_eq (length ns) 0 && nat_eq (length es) n) ≡ true → plain r (map (operand es) (from 0 n)) ≡ kept_as r ns es
+row r n ns es h =
     let p = and_parts (nat_eq (length ns) 0) (nat_eq (length es) n) h in
-    λ i. kept_as r (none ns (eqb-true (length ns) 0 p.0) i) (f (eqb-true (length es) n p.1) i)
-
-row-0 : (r : ℕ) (ns : List ℕ) (es : List Tree) → (nat_eq (length ns) 0 && nat_eq (length es) 0) ≡ true → plain r [] ≡ kept_as r ns es
-row-0 r ns es = row r 0 ns es [] (all es)
-  where
-    all : (es : List Tree) → length es ≡ 0 → [] ≡ es
-    all [] e = refl
-    all (a ∷ es) e = absurd (omega arith)
-
-row-1 : (r : ℕ) (ns : List ℕ) (es : List Tree) → (nat_eq (length ns) 0 && nat_eq (length es) 1) ≡ true → plain r (operand es 0 ∷ []) ≡ kept_as r ns es
-row-1 r ns es = row r 1 ns es (operand es 0 ∷ []) (all es)
-  where
-    all : (es : List Tree) → length es ≡ 1 → operand es 0 ∷ [] ≡ es
-    all [] e = absurd (omega arith)
-    all (a ∷ []) e = refl
-    all (a ∷ b ∷ es) e = absurd (omega arith)
-
-row-2 : (r : ℕ) (ns : List ℕ) (es : List Tree) → (nat_eq (length ns) 0 && nat_eq (length es) 2) ≡ true → plain r (operand es 0 ∷ operand es 1 ∷ []) ≡ kept_as r ns es
-row-2 r ns es = row r 2 ns es (operand es 0 ∷ operand es 1 ∷ []) (all es)
-  where
-    all : (es : List Tree) → length es ≡ 2 → operand es 0 ∷ operand es 1 ∷ [] ≡ es
-    all [] e = absurd (omega arith)
-    all (a ∷ []) e = absurd (omega arith)
-    all (a ∷ b ∷ []) e = refl
-    all (a ∷ b ∷ c ∷ es) e = absurd (omega arith)
-
-row-3 : (r : ℕ) (ns : List ℕ) (es : List Tree) → (nat_eq (length ns) 0 && nat_eq (length es) 3) ≡ true → plain r (operand es 0 ∷ operand es 1 ∷ operand es 2 ∷ []) ≡ kept_as r ns es
-row-3 r ns es = row r 3 ns es (operand es 0 ∷ operand es 1 ∷ operand es 2 ∷ []) (all es)
-  where
-    all : (es : List Tree) → length es ≡ 3 → operand es 0 ∷ operand es 1 ∷ operand es 2 ∷ [] ≡ es
-    all [] e = absurd (omega arith)
-    all (a ∷ []) e = absurd (omega arith)
-    all (a ∷ b ∷ []) e = absurd (omega arith)
-    all (a ∷ b ∷ c ∷ []) e = refl
-    all (a ∷ b ∷ c ∷ d ∷ es) e = absurd (omega arith)
+    let e = ap (λ n. map (operand es) (from 0 n)) (sym (eqb-true (length es) n p.1)) ∙ listed [] es 0 refl in
+    λ i. kept_as r (sym (nil_from_length ns (eqb-true (length ns) 0 p.0)) i) (e i)
 
 row-lists : (ns : List ℕ) (es : List Tree) → (nat_eq (length ns) 2 && nat_eq (length es) (get_or ns 0 0 + get_or ns 1 0)) ≡ true
     → kept_as 3 (length (take (get_or ns 0 0) es) ∷ length (drop (get_or ns 0 0) es) ∷ []) (take (get_or ns 0 0) es ++ drop (get_or ns 0 0) es) ≡ kept_as 3 ns es
@@ -107,7 +82,7 @@ row-schema ns es h =
 all-rows : (Rows 0 readings) × (length readings ≡ 22)
 unfolding readings expression_counts
 all-rows =
-    ((row-1 0, (row-0 1, (row-0 2, (row-lists, (row-1 4, (row-1 5, (row-1 6, (row-2 7, (row-2 8, (row-2 9, (row-2 10, (row-2 11, (row-2 12, (row-2 13, (row-2 14, (row-2 15, (row-1 16, (row-1 17, (row-2 18, (row-1 19, (row-3 20, (row-schema, tt)))))))))))))))))))))), refl)
+    ((row 0 1, (row 1 0, (row 2 0, (row-lists, (row 4 1, (row 5 1, (row 6 1, (row 7 2, (row 8 2, (row 9 2, (row 10 2, (row 11 2, (row 12 2, (row 13 2, (row 14 2, (row 15 2, (row 16 1, (row 17 1, (row 18 2, (row 19 1, (row 20 3, (row-schema, tt)))))))))))))))))))))), refl)
 
 -- the rule that a step is read as is kept as the step has it
 pub kept-step : (s : ProofStep) (es : List Tree) → IsTrue (step_fits s) → length es ≡ length s.exprs → kept (rule_of s.rule s.numbers es) ≡ kept_as s.rule s.numbers es

@@ -16,8 +16,7 @@ use Rattle.text_writer.specs.Proofs.{Kept, AllEntered, with_step, enter_proof, e
 use Rattle.text_writer.specs.Tasks.{no_step, step_at, proof_at, behind, kept_step, act, acts, visits, step_of}
 use Rattle.text_writer.proofs.RowLaws.{last-are, below-are}
 use Rattle.text_writer.proofs.RuleLaws.{kept-step}
-use Rattle.text_writer.proofs.SharedLaws.{below-append}
-use Rattle.text_writer.proofs.TreeLaws.{below-wider}
+use Rattle.text_writer.proofs.TreeLaws.{below-append, below-wider}
 
 pub same-proofs : (n : ℕ) (ps qs : List Proof) (is : List ℕ) → AreBelow n is → ((j : ℕ) → j < n → get_or ps j no_proof ≡ get_or qs j no_proof) → proofs_at ps is ≡ proofs_at qs is
 same-proofs n ps qs [] b e = refl

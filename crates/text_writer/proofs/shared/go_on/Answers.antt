@@ -3,7 +3,8 @@ use Rattle.std.proofs.lemmas.List.{get_or_default}
 use Rattle.core_expr.specs.Nodes.{AreBelow}
 use Rattle.proof_text.specs.Frames.{no_node, parts_at}
 use Rattle.text_writer.specs.Shared.{enter_last_first, here, last_first}
-use Rattle.text_writer.proofs.SharedLaws.{node-below, waits, below-append, below-last_first}
+use Rattle.text_writer.proofs.SharedLaws.{node-below, waits, below-last_first}
+use Rattle.text_writer.proofs.TreeLaws.{below-append}
 use Rattle.text_writer.proofs.shared.go_on.Goals as goal
 use Rattle.text_writer.proofs.shared.go_on.Goals.{After-as_slice}
 
