@@ -106,6 +106,7 @@ module _ (law : NodeShows) (ns : List ProofNode) (h : IsTable ns) (i : ℕ) (l :
 -- the place of a tree that was entered is noted
 pub noted-more : (ns table : List ProofNode) (places : List (Option ℕ)) (i : ℕ) (new : Placed) → i < length ns → AreNoted ns table places → enter (tree_in ns i) table ≡ new → AreNoted ns new.nodes (slice_set places i (Some new.place))
 noted-more ns table places i new l n e = record {
+  nodes = n.nodes;
   count = length-set places i (Some new.place) ∙ n.count;
   stand = λ j p h. go j p h (nat_eq j i) refl;
 }
