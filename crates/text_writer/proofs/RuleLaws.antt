@@ -12,7 +12,7 @@ use Rattle.seq_calculus.specs.Calculus.Rule.{TrueR}
 use Rattle.text_writer.specs.Proofs.{Kept, plain, kept}
 
 -- a step with the rule r has these numbers and so many expressions
-abbrev counts_fit : ℕ → List ℕ → ℕ → Bool
+abbrev pub counts_fit : ℕ → List ℕ → ℕ → Bool
 counts_fit r ns k =
     cond (nat_eq r 3) (nat_eq (length ns) 2 && nat_eq k (get_or ns 0 0 + get_or ns 1 0))
     (cond (nat_eq r 21) (nat_eq (length ns) 3 && nat_eq k (get_or ns 2 0)) (nat_eq (length ns) 0 && nat_eq k (get_or expression_counts r 0)))

@@ -1,6 +1,5 @@
-use Rattle.std.proofs.Common.{◌∙◌, ◌≡◌, ◌≤◌, [], ◌∷◌, refl, ap, arith, length, rules}
+use Rattle.std.proofs.Common.{◌∙◌, ◌≡◌, [], ◌∷◌, ap, arith, length, rules}
 use Rattle.std.proofs.lemmas.Grind.{common_steps}
-use Rattle.core_expr.specs.Flat.{rows_of}
 use Rattle.text_writer.specs.Tables.{AllPlaced, enter}
 use Rattle.text_writer.proofs.EnterLaws.{here_all}
 use Rattle.text_writer.proofs.RowLaws.{run-all, run-next}
