@@ -36,48 +36,38 @@ abbrev from : ℕ → ℕ → List ℕ
 from i zero = []
 from i (suc n) = i ∷ from (suc i) n
 
--- the expressions, one by one
-listed : (us es : List Tree) (i : ℕ) → length us ≡ i → map (operand (us ++ es)) (from i (length es)) ≡ es
-listed us [] i e = refl
-listed us (t ∷ es) i e =
-    let r = ap (λ ts. map (operand ts) (from (suc i) (length es))) (sym (append_assoc us (t ∷ []) es)) ∙ listed (us ++ t ∷ []) es (suc i) (omega (arith, length-append us (t ∷ []))) in
-    λ j. get_or_at us t es true_ i e j ∷ r j
+-- a list, item by item
+listed : {A : Type 0} (d : A) (us xs : List A) (i : ℕ) → length us ≡ i → map (λ j. get_or (us ++ xs) j d) (from i (length xs)) ≡ xs
+listed d us [] i e = refl
+listed d us (x ∷ xs) i e =
+    let r = ap (λ ys. map (λ j. get_or ys j d) (from (suc i) (length xs))) (sym (append_assoc us (x ∷ []) xs)) ∙ listed d (us ++ x ∷ []) xs (suc i) (omega (arith, length-append us (x ∷ []))) in
+    λ j. get_or_at us x xs d i e j ∷ r j
+
+first-ones : {A : Type 0} (d : A) (xs : List A) (n : ℕ) → nat_eq (length xs) n ≡ true → map (λ j. get_or xs j d) (from 0 n) ≡ xs
+first-ones d xs n h = ap (λ n. map (λ j. get_or xs j d) (from 0 n)) (sym (eqb-true (length xs) n h)) ∙ listed d [] xs 0 refl
 
 -- a rule without numbers and with n expressions
 row : (r n : ℕ) (ns : List ℕ) (es : List Tree) → (nat_eq (length ns) 0 && nat_eq (length es) n) ≡ true → plain r (map (operand es) (from 0 n)) ≡ kept_as r ns es
 row r n ns es h =
     let p = and_parts (nat_eq (length ns) 0) (nat_eq (length es) n) h in
-    let e = ap (λ n. map (operand es) (from 0 n)) (sym (eqb-true (length es) n p.1)) ∙ listed [] es 0 refl in
-    λ i. kept_as r (sym (nil_from_length ns (eqb-true (length ns) 0 p.0)) i) (e i)
+    λ i. kept_as r (first-ones 0 ns 0 p.0 i) (first-ones true_ es n p.1 i)
 
-row-lists : (ns : List ℕ) (es : List Tree) → (nat_eq (length ns) 2 && nat_eq (length es) (get_or ns 0 0 + get_or ns 1 0)) ≡ true
-    → kept_as 3 (length (take (get_or ns 0 0) es) ∷ length (drop (get_or ns 0 0) es) ∷ []) (take (get_or ns 0 0) es ++ drop (get_or ns 0 0) es) ≡ kept_as 3 ns es
+row-lists : (ns : List ℕ) (es : List Tree) → (let a = get_or ns 0 0 in let b = get_or ns 1 0 in (nat_eq (length ns) 2 && nat_eq (length es) (a + b)) ≡ true
+    → kept_as 3 (length (take a es) ∷ length (drop a es) ∷ []) (take a es ++ drop a es) ≡ kept_as 3 ns es)
 row-lists ns es h =
-    let p = and_parts (nat_eq (length ns) 2) (nat_eq (length es) (get_or ns 0 0 + get_or ns 1 0)) h in
-    go ns (eqb-true (length ns) 2 p.0) (eqb-true (length es) (get_or ns 0 0 + get_or ns 1 0) p.1)
-  where
-    go : (ns : List ℕ) → length ns ≡ 2 → length es ≡ get_or ns 0 0 + get_or ns 1 0
-        → kept_as 3 (length (take (get_or ns 0 0) es) ∷ length (drop (get_or ns 0 0) es) ∷ []) (take (get_or ns 0 0) es ++ drop (get_or ns 0 0) es) ≡ kept_as 3 ns es
-    go [] e f = absurd (omega arith)
-    go (a ∷ []) e f = absurd (omega arith)
-    go (a ∷ b ∷ []) e f =
-        let l : length (take a es) ≡ a = length-take-le a es (omega arith) in
-        let r : length (drop a es) ≡ b = omega (arith, length-drop a es) in
-        λ i. kept_as 3 (l i ∷ r i ∷ []) (take-append-drop a es i)
-    go (a ∷ b ∷ c ∷ ns) e f = absurd (omega arith)
+    let a = get_or ns 0 0 in
+    let b = get_or ns 1 0 in
+    let p = and_parts (nat_eq (length ns) 2) (nat_eq (length es) (a + b)) h in
+    let e = eqb-true (length es) (a + b) p.1 in
+    let l : length (take a es) ≡ a = length-take-le a es (omega (arith, e)) in
+    let r : length (drop a es) ≡ b = omega (arith, e, length-drop a es) in
+    (λ i. kept_as 3 (l i ∷ r i ∷ []) (take-append-drop a es i)) ∙ ap (λ ns. kept_as 3 ns es) (first-ones 0 ns 2 p.0)
 
 row-schema : (ns : List ℕ) (es : List Tree) → (nat_eq (length ns) 3 && nat_eq (length es) (get_or ns 2 0)) ≡ true
     → kept_as 21 (get_or ns 0 0 ∷ get_or ns 1 0 ∷ length es ∷ []) es ≡ kept_as 21 ns es
 row-schema ns es h =
     let p = and_parts (nat_eq (length ns) 3) (nat_eq (length es) (get_or ns 2 0)) h in
-    go ns (eqb-true (length ns) 3 p.0) (eqb-true (length es) (get_or ns 2 0) p.1)
-  where
-    go : (ns : List ℕ) → length ns ≡ 3 → length es ≡ get_or ns 2 0 → kept_as 21 (get_or ns 0 0 ∷ get_or ns 1 0 ∷ length es ∷ []) es ≡ kept_as 21 ns es
-    go [] e f = absurd (omega arith)
-    go (k ∷ []) e f = absurd (omega arith)
-    go (k ∷ z ∷ []) e f = absurd (omega arith)
-    go (k ∷ z ∷ n ∷ []) e f = λ i. kept_as 21 (k ∷ z ∷ f i ∷ []) es
-    go (k ∷ z ∷ n ∷ m ∷ ns) e f = absurd (omega arith)
+    ap (λ n. kept_as 21 (get_or ns 0 0 ∷ get_or ns 1 0 ∷ n ∷ []) es) (eqb-true (length es) (get_or ns 2 0) p.1) ∙ ap (λ ns. kept_as 21 ns es) (first-ones 0 ns 3 p.0)
 
 all-rows : (Rows 0 readings) × (length readings ≡ 22)
 unfolding readings expression_counts
