@@ -3,7 +3,7 @@ use Rattle.std.proofs.Common.{◌≡◌, ℕ, zero, suc, ◌+◌, ◌<◌, Bool,
 use Rattle.std.specs.Prelude.{IsTrue}
 use Rattle.std.proofs.lemmas.Bool.{and_parts}
 use Rattle.std.proofs.lemmas.Bool.Decides.{nat_tests}
-use Rattle.std.proofs.lemmas.List.{length-take-le, get_or_at, nil_from_length}
+use Rattle.std.proofs.lemmas.List.{length-take-le, get_or_at}
 use Rattle.core_expr.specs.Tree.{Tree, true_}
 use Rattle.seq_calculus.specs.declared.lists.ProofStep.{ProofStep}
 use Rattle.seq_calculus.specs.Lists.{step_fits, expression_counts, premise_counts}
