@@ -10,6 +10,8 @@ mod laws;
 mod lines;
 mod read;
 mod record;
+mod write;
 
 pub use laws::records_are_one;
 pub use read::read_cache;
+pub use write::write_cache;
