@@ -1,14 +1,14 @@
 -- Entering trees adds to a table, and a tree that was entered stands there.
-use Rattle.std.proofs.Common.{◌≡◌, ℕ, List, [], ◌∷◌, ◌++◌, refl, ap, sym, ◌∙◌}
-use Rattle.core_expr.specs.declared.row.RowKind.{RowKind}
+use Rattle.std.proofs.Common.{◌≡◌, ℕ, List, [], ◌∷◌, ◌++◌, refl, ap, ◌∙◌}
 use Rattle.core_expr.specs.Tree.{Tree, Parts}
 use Rattle.core_expr.specs.Tree.Tree.{bound, app, node, bind}
 use Rattle.core_expr.specs.Tree.Parts.{end, part}
 use Rattle.core_expr.specs.Heads.{list_of, subtrees}
 use Rattle.core_expr.specs.Places.{kind_of, root_numbers}
 use Rattle.seq_calculus.specs.declared.lists.ProofNode.{ProofNode}
+use Rattle.text_writer.specs.Shared.{here}
 use Rattle.text_writer.specs.Tables.{Placed, AllPlaced, node_over, root, with_first, with_last, enter, enter_parts, enter_all}
-use Rattle.text_writer.proofs.PutLaws.{here, Extends, same, join, put-extends, put-again}
+use Rattle.text_writer.proofs.PutLaws.{Extends, same, join, put-extends, put-again}
 
 -- a table and places in it
 abbrev pub here_all : List ProofNode → List ℕ → AllPlaced

@@ -2,3 +2,9 @@ pub mod RowLaws
 pub mod PutLaws
 pub mod EnterLaws
 pub mod TreeLaws
+pub mod SharedLaws
+pub mod RuleLaws
+pub mod StepLaws
+pub mod ApartLaws
+pub mod FitLaws
+pub mod MadeLaws

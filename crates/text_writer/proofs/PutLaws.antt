@@ -1,13 +1,10 @@
 -- A node that is put into a table stands there.
-use Rattle.std.proofs.Common.{◌≡◌, ℕ, suc, ◌+◌, ◌<◌, Bool, true, false, cond, not, ◌||◌, List, [], ◌∷◌, ◌++◌, length, get_or, refl, ap, sym, ◌∙◌, arith, append_assoc, append-nil}
+use Rattle.std.proofs.Common.{◌≡◌, suc, ◌+◌, ◌<◌, Bool, true, false, cond, not, ◌||◌, List, [], ◌∷◌, ◌++◌, length, get_or, refl, ap, sym, ◌∙◌, arith, append_assoc, append-nil}
 use Rattle.std.specs.List.{list_any}
 use Rattle.seq_calculus.specs.declared.lists.ProofNode.{ProofNode}
 use Rattle.text_writer.specs.Keys.{same_node, node-Decides}
-use Rattle.text_writer.specs.Tables.{Placed, AllPlaced, seek, put}
-
--- a table and a place in it
-abbrev pub here : List ProofNode → ℕ → Placed
-here ns p = record { nodes = ns; place = p }
+use Rattle.text_writer.specs.Shared.{here}
+use Rattle.text_writer.specs.Tables.{Placed, seek, put}
 
 -- a table that others were added to
 pub record Extends (old new : List ProofNode) : Type 0 where

@@ -1,5 +1,5 @@
 -- Entering the nodes of an expression one by one enters its tree.
-use Rattle.std.proofs.Common.{◌≡◌, ℕ, zero, suc, ◌+◌, ◌-◌, ◌<◌, ◌≤◌, List, [], ◌∷◌, ◌++◌, length, take, drop, get_or, refl, ap, sym, subst, ◌∙◌, arith, append_assoc, append-nil, length-append}
+use Rattle.std.proofs.Common.{◌≡◌, ℕ, zero, suc, ◌+◌, ◌-◌, ◌<◌, ◌≤◌, List, [], ◌∷◌, ◌++◌, length, take, drop, get_or, refl, ap, sym, ◌∙◌, arith, append_assoc, append-nil, length-append}
 use Rattle.core_expr.specs.declared.row.Row.{Row}
 use Rattle.core_expr.specs.declared.row.RowKind.{RowKind}
 use Rattle.core_expr.specs.declared.row.RowKind.TheVariants.{Bound, Symbol, Plain, Binding}
@@ -9,8 +9,8 @@ use Rattle.core_expr.specs.Tree.Parts.{end, part}
 use Rattle.core_expr.specs.Heads.{table_numbers}
 use Rattle.core_expr.specs.Flat.{row, rows_at, rows_of, all_rows, row_at}
 use Rattle.seq_calculus.specs.declared.lists.ProofNode.{ProofNode}
-use Rattle.text_writer.specs.Tables.{Placed, AllPlaced, put, node_over, root, with_last, with_first, enter, enter_parts}
-use Rattle.text_writer.specs.Rows.{below_last, last_places, completed, next, run}
+use Rattle.text_writer.specs.Tables.{Placed, AllPlaced, put, node_over, with_last, enter, enter_parts}
+use Rattle.text_writer.specs.Rows.{below_last, last_places, next, run}
 
 drop-front : (qs ps : List ℕ) → drop (length qs) (qs ++ ps) ≡ ps
 drop-front [] ps = refl
@@ -21,12 +21,12 @@ take-front [] ps = refl
 take-front (q ∷ qs) ps = ap (λ rs. q ∷ rs) (take-front qs ps)
 
 -- places behind others are the last ones
-last-are : (n : ℕ) (qs ps : List ℕ) → n ≡ length ps → last_places n (qs ++ ps) ≡ ps
+pub last-are : (n : ℕ) (qs ps : List ℕ) → n ≡ length ps → last_places n (qs ++ ps) ≡ ps
 last-are n qs ps e =
     let q : length (qs ++ ps) - n ≡ length qs = omega (arith, length-append qs ps) in
     ap (λ k. drop k (qs ++ ps)) q ∙ drop-front qs ps
 
-below-are : (n : ℕ) (qs ps : List ℕ) → n ≡ length ps → below_last n (qs ++ ps) ≡ qs
+pub below-are : (n : ℕ) (qs ps : List ℕ) → n ≡ length ps → below_last n (qs ++ ps) ≡ qs
 below-are n qs ps e =
     let q : length (qs ++ ps) - n ≡ length qs = omega (arith, length-append qs ps) in
     ap (λ k. take k (qs ++ ps)) q ∙ take-front qs ps

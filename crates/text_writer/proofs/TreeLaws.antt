@@ -13,16 +13,14 @@ use Rattle.core_expr.specs.Nodes.{Node, IsNode, AreBelow, AreNodes, picked, node
 use Rattle.core_expr.specs.Laws.{CanonicalIsNode}
 use Rattle.seq_calculus.specs.declared.lists.ProofNode.{ProofNode}
 use Rattle.seq_calculus.specs.Lists.{node_of}
+use Rattle.proof_text.specs.Frames.{no_node}
 use Rattle.proof_text.specs.Texts.{trees_in, tree_in, AreCanonical}
 use Rattle.proof_text.proofs.TableTrees.{trees-count, tree-at, length-picked}
 use Rattle.text_writer.specs.Keys.{same_node}
 use Rattle.text_writer.specs.Laws.{AreWellFormed, CanonIsShown}
 use Rattle.text_writer.specs.Tables.{Placed, AllPlaced, node_over, root, put, with_last, enter, enter_parts, enter_all, table_of, obligation_of, canon_list}
-use Rattle.text_writer.proofs.PutLaws.{here, Extends, same, join, seek-some, put-there, put-new}
+use Rattle.text_writer.proofs.PutLaws.{Extends, seek-some, put-there, put-new}
 use Rattle.text_writer.proofs.EnterLaws.{here_all, extends, extends-parts, extends-all}
-
-abbrev no_node : ProofNode
-no_node = record { head = 0; numbers = []; parts = [] }
 
 trees-split : (ts : List Tree) (ns ms : List Node) → trees_from ts (ns ++ ms) ≡ trees_from (trees_from ts ns) ms
 trees-split ts [] ms = refl
@@ -46,7 +44,7 @@ trees-extend ns new x =
 pub extends-length : (ns new : List ProofNode) → Extends ns new → length ns ≤ length new
 extends-length ns new x = let e = ap length x.new_is in omega (arith, length-append ns x.more, e)
 
-below-wider : (n m : ℕ) (is : List ℕ) → n ≤ m → AreBelow n is → AreBelow m is
+pub below-wider : (n m : ℕ) (is : List ℕ) → n ≤ m → AreBelow n is → AreBelow m is
 below-wider n m [] l b = tt
 below-wider n m (i ∷ is) l b = (omega (arith, b.0), below-wider n m is l b.1)
 
@@ -95,7 +93,7 @@ abbrev pub AreRight : List Tree → Type 0
 AreRight [] = Unit {0}
 AreRight (t ∷ ts) = IsRight t × AreRight ts
 
-node-at : (ns : List ProofNode) (p : ℕ) → get_or (map node_of ns) p (node_of no_node) ≡ node_of (get_or ns p no_node)
+pub node-at : (ns : List ProofNode) (p : ℕ) → get_or (map node_of ns) p (node_of no_node) ≡ node_of (get_or ns p no_node)
 node-at [] p = refl
 node-at (m ∷ ns) zero = refl
 node-at (m ∷ ns) (suc p) = node-at ns p

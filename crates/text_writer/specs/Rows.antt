@@ -1,7 +1,6 @@
 -- Entering the nodes of an expression in the order in which it keeps them.
 use Rattle.std.specs.Prelude.{ℕ, ◌-◌, List, [], ◌∷◌, ◌++◌, length, take, drop}
 use Rattle.core_expr.specs.declared.row.Row.{Row}
-use Rattle.seq_calculus.specs.declared.lists.ProofNode.{ProofNode}
 use Rattle.text_writer.specs.Tables.{Placed, AllPlaced, put, node_over}
 
 -- the places that are left below the last n

@@ -88,6 +88,20 @@ impl Node {
         })
     }
 
+    /// The node with the head and the numbers of another, over these places.
+    pub fn with_parts(alloc: Global, node: &ProofNode, parts: Items<u64>) -> Result<Node, Memory>
+        ensures { IfOk result (λ n. n
+            ≡ record { head = node.now.head; numbers = node.now.numbers; parts = parts }) }
+    {
+        Ok(Node {
+            node: ProofNode {
+                head: node.head,
+                numbers: Items::from_slice(alloc, node.numbers.as_slice())?,
+                parts,
+            },
+        })
+    }
+
     /// Writes the node: its head, its numbers and its parts.
     pub fn write(&self, list: &mut Vec<u64>) -> Result<(), Memory>
         ensures { OnOk result (list.new.items ≡ list.old.items ++ written_node self.now) }

@@ -11,7 +11,7 @@ use sqlite_items::Items;
 use std::alloc::Global;
 
 /// The place of a node in the table, where it goes last unless it is there.
-fn put(nodes: &mut IndexSet<Node>, node: Node) -> Result<u64, Memory>
+pub fn put(nodes: &mut IndexSet<Node>, node: Node) -> Result<u64, Memory>
     ensures nodes { OnOk result (nodes.new.keys ≡ (put node nodes.old.keys).nodes) }
     ensures place { IfOk result (λ p. p ≡ (put node nodes.old.keys).place) }
 {

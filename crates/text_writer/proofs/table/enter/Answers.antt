@@ -1,4 +1,4 @@
-use Rattle.std.proofs.Common.{◌≡◌, ℕ, ◌≤◌, List, [], ◌∷◌, ◌++◌, refl, ap, sym, ◌∙◌, arith, length, take, rules}
+use Rattle.std.proofs.Common.{◌≡◌, ◌≤◌, [], ◌∷◌, refl, ap, arith, length, rules}
 use Rattle.std.proofs.lemmas.Grind.{common_steps}
 use Rattle.core_expr.specs.Flat.{rows_of}
 use Rattle.text_writer.specs.Tables.{enter}
