@@ -1,7 +1,6 @@
 -- A key is text.
-use Rattle.std.proofs.Common.{◌≡◌, ℕ, zero, suc, ◌<◌, ◌≤◌, List, true, Bool, nat_lt, refl, arith, ltb-true}
-use Rattle.std.specs.Prelude.{Result, Ok, Err, MatchResult, IsOk, slice_index}
-use Rattle.std.specs.List.{list_all}
+use Rattle.std.proofs.Common.{ℕ, List, nat_lt, refl, ltb-true}
+use Rattle.std.specs.Prelude.{Result, Ok, Err, MatchResult, IsOk}
 use Rattle.std.specs.Str.{IsAscii, IsUtf8}
 use Rattle.std.proofs.lemmas.Str.{IsUtf8-from_ascii}
 use Rattle.std.proofs.lemmas.List.Sums.{AllPass-from_list_all}

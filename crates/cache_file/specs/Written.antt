@@ -1,5 +1,5 @@
 -- What a run writes into the file of a cache.
-use Rattle.std.specs.Prelude.{ℕ, List, [], ◌∷◌, ◌++◌, Option, Some, None}
+use Rattle.std.specs.Prelude.{ℕ, List, [], ◌∷◌, ◌++◌, Option, Some}
 use Rattle.std.specs.List.{flat_map}
 use Rattle.core_expr.specs.declared.canon.Canon.{Canon}
 use Rattle.text_writer.specs.Proofs.{lists_of}
