@@ -2,3 +2,4 @@ pub mod LineLaws
 pub mod RecordLaws
 pub mod Keeping
 pub mod KeyText
+pub mod WriteLaws

@@ -1,11 +1,9 @@
 //! The file of a cache, written.
 ghost use Rattle.std.specs.Prelude.{◌≡◌, ◌++◌, IfOk, OnOk};
-ghost use Rattle.proof_text.specs.Key.{key_of};
-ghost use Rattle.cache_file.specs.Written.{file_of, job_record, job_records};
-ghost use Rattle.seq_calculus.specs.Steps.{proof_of};
-ghost use Rattle.text_writer.specs.Proofs.{lists_of};
-ghost use Rattle.cache_line.specs.Lines.{line_text};
-ghost use Rattle.cache_file.specs.Records.{parts_of};
+ghost use Rattle.std.specs.List.{AllByRecursion};
+ghost use Rattle.proof_text.specs.Texts.{Shows};
+ghost use Rattle.text_writer.specs.Tables.{canon_list};
+ghost use Rattle.cache_file.specs.Written.{IsWritten, AreReadBack, IsShort, file_of, proved_job, proved_jobs, written_line};
 
 use crate::lines::LINE_FEED;
 use cache_line::write_line;
@@ -14,18 +12,21 @@ use proof_cache::Verdict;
 use proof_text::key;
 use seq_calculus::SeqProof;
 use std::alloc::Global;
-use text_writer::{write_canon, write_proof};
+use text_writer::{proof_is_shown, write_canon, write_proof};
 
 /// The line of a job's form and its proof, without its line feed.
 fn line(alloc: Global, job: &Canon, proof: &SeqProof) -> Result<Vec<u8>, Memory>
-    ensures { IfOk result (λ l. l.items ≡ line_text
-        (parts_of (record { canon = job.now; proof = lists_of (proof_of proof.now) }))) }
+    ensures text { IfOk result (λ l.
+        l.items ≡ written_line (record { canon = job.now; proof = proof.now })) }
+    ensures written { IfOk result (λ l.
+        IsWritten (record { canon = job.now; proof = proof.now })) }
 {
+    let _ = proof.nodes();
     let form = write_canon(alloc, job)?;
-    let proof = write_proof(alloc, proof)?;
+    let list = write_proof(alloc, proof)?;
     let key = key(alloc, form.as_slice())?;
     let key = str::from_utf8(key.bytes()).unwrap();
-    write_line(alloc, key, form.as_slice(), proof.as_slice())
+    write_line(alloc, key, form.as_slice(), list.as_slice())
 }
 
 /// Writes the line of a job, where it is proved.
@@ -35,8 +36,9 @@ fn write_job(
     job: &Canon,
     verdict: &Option<Verdict>,
 ) -> Result<(), Memory>
-    ensures { OnOk result (file.new.items
-        ≡ file.old.items ++ file_of (job_record job.now verdict.now)) }
+    ensures text { OnOk result (file.new.items
+        ≡ file.old.items ++ file_of (proved_job job.now verdict.now)) }
+    ensures written { OnOk result (AllByRecursion IsWritten (proved_job job.now verdict.now)) }
 {
     if let Some(Verdict::Proved { proof, .. }) = verdict {
         let mut line = line(alloc, job, proof)?;
@@ -46,14 +48,19 @@ fn write_job(
     Ok(())
 }
 
-/// The file of a cache with the records of the jobs that are proved, in the order of the jobs. Want of memory is the only other answer.
+/// The file of a cache with the jobs that are proved, in the order of the jobs. Where each job's list shows it and no line is too long,
+/// the file is read back as the same records. Want of memory is the only other answer.
 pub fn write_cache(
     alloc: Global,
     jobs: &[Canon],
     verdicts: &[Option<Verdict>],
 ) -> Result<Vec<u8>, Memory>
-    ensures { IfOk result (λ b. b.items ≡ file_of (job_records jobs.now verdicts.now)) }
+    ensures text { IfOk result (λ b. b.items ≡ file_of (proved_jobs jobs.now verdicts.now)) }
+    ensures read { IfOk result (λ b. AllByRecursion (λ c. Shows (canon_list c) c) jobs.now
+        → AllByRecursion IsShort (proved_jobs jobs.now verdicts.now)
+        → AreReadBack (proved_jobs jobs.now verdicts.now) b.items) }
 {
+    proof_is_shown();
     let mut file = Vec::new(alloc);
     for (job, verdict) in jobs.iter().zip(verdicts) {
         write_job(alloc, &mut file, job, verdict)?;
