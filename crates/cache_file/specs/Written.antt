@@ -5,6 +5,7 @@ use Rattle.core_expr.specs.declared.canon.Canon.{Canon}
 use Rattle.seq_calculus.specs.Lists.{AreLists}
 use Rattle.seq_calculus.specs.Steps.{proof_of}
 use Rattle.proof_text.specs.Key.{key_of}
+use Rattle.proof_text.specs.Texts.{Shows}
 use Rattle.text_writer.specs.Tables.{canon_list}
 use Rattle.text_writer.specs.Proofs.{proof_list}
 use Rattle.cache_line.specs.declared.line.Line.{Line}
@@ -36,9 +37,10 @@ written_line r = line_text (written_parts r)
 abbrev pub file_of : List Record → List ℕ
 file_of = flat_map (λ r. written_line r ++ 10 ∷ [])
 
--- the record's line is not too long to be read
-abbrev pub IsShort : Record → Type 0
-IsShort r = length (written_line r) ≤ 8388608
+-- the record can be read back: what is written of its form shows the form, and its line is not too long
+pub record IsReadable (r : Record) : Type 0 where
+  pub form : Shows (canon_list r.canon) r.canon
+  pub short : length (written_line r) ≤ 8388608
 
 -- records of the same form, whose proofs have the same tree
 pub record IsSame (r q : Record) : Type 0 where

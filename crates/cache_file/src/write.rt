@@ -1,9 +1,7 @@
 //! The file of a cache, written.
 ghost use Rattle.std.specs.Prelude.{◌≡◌, ◌++◌, IfOk, OnOk};
 ghost use Rattle.std.specs.List.{AllByRecursion};
-ghost use Rattle.proof_text.specs.Texts.{Shows};
-ghost use Rattle.text_writer.specs.Tables.{canon_list};
-ghost use Rattle.cache_file.specs.Written.{IsWritten, AreReadBack, IsShort, file_of, proved_job, proved_jobs, written_line};
+ghost use Rattle.cache_file.specs.Written.{IsWritten, AreReadBack, IsReadable, file_of, proved_job, proved_jobs, written_line};
 
 use crate::lines::LINE_FEED;
 use cache_line::write_line;
@@ -48,16 +46,15 @@ fn write_job(
     Ok(())
 }
 
-/// The file of a cache with the jobs that are proved, in the order of the jobs. Where each job's list shows it and no line is too long,
-/// the file is read back as the same records. Want of memory is the only other answer.
+/// The file of a cache with the jobs that are proved, in the order of the jobs. Where each of them can be read back, the file is read
+/// back as records of the same forms whose proofs have the same trees. Want of memory is the only other answer.
 pub fn write_cache(
     alloc: Global,
     jobs: &[Canon],
     verdicts: &[Option<Verdict>],
 ) -> Result<Vec<u8>, Memory>
     ensures text { IfOk result (λ b. b.items ≡ file_of (proved_jobs jobs.now verdicts.now)) }
-    ensures read { IfOk result (λ b. AllByRecursion (λ c. Shows (canon_list c) c) jobs.now
-        → AllByRecursion IsShort (proved_jobs jobs.now verdicts.now)
+    ensures read { IfOk result (λ b. AllByRecursion IsReadable (proved_jobs jobs.now verdicts.now)
         → AreReadBack (proved_jobs jobs.now verdicts.now) b.items) }
 {
     proof_is_shown();

@@ -1,4 +1,4 @@
-use Rattle.std.proofs.Common.{◌≡◌, ◌<◌, ◌++◌, ◌∷◌, [], ◌∙◌, length, ap, sym, arith, append_assoc}
+use Rattle.std.proofs.Common.{◌<◌, ◌++◌, ◌∷◌, [], ◌∙◌, length, ap, sym, arith, append_assoc}
 use Rattle.std.proofs.lemmas.List.{length-append}
 use Rattle.cache_file.proofs.read.keep_all.Goals as goal
 

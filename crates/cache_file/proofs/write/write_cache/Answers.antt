@@ -2,7 +2,7 @@ use Rattle.std.proofs.Common.{◌++◌, ◌∙◌, ap, sym, subst, append-nil}
 use Rattle.std.specs.List.{AllByRecursion}
 use Rattle.std.proofs.lemmas.Slice.Zip.{either_empty_from_Zip}
 use Rattle.cache_file.specs.Written.{IsWritten, AreReadBack, file_of, proved_jobs}
-use Rattle.cache_file.proofs.WriteLaws.{file_read, none_left}
+use Rattle.cache_file.proofs.WriteLaws.{records_read, none_left}
 use Rattle.cache_file.proofs.write.write_cache.Goals as goal
 
 pub returns : goal.returns
@@ -14,5 +14,5 @@ returns c =
     let written = inv.written (subst (AllByRecursion IsWritten) (sym none) tt) in
     record {
       text = text;
-      read = λ shown short. subst (AreReadBack (proved_jobs c.args.jobs.now c.args.verdicts.now)) (sym text) (file_read c.proof_is_shown.ensures c.args.jobs.now c.args.verdicts.now written shown short);
+      read = λ h. subst (AreReadBack (proved_jobs c.args.jobs.now c.args.verdicts.now)) (sym text) (records_read c.proof_is_shown.ensures _ written h);
     }
