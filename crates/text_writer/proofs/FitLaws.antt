@@ -1,5 +1,5 @@
 -- The steps of a proof's tree have rules, expressions and premises that lists may have.
-use Rattle.std.proofs.Common.{◌≡◌, ℕ, zero, suc, ◌+◌, ◌<◌, Bool, cond, nat_eq, nat_lt, ◌&&◌, List, [], ◌∷◌, length, get_or, refl, ap, sym, ◌∙◌, subst, arith}
+use Rattle.std.proofs.Common.{◌≡◌, ℕ, zero, suc, ◌<◌, Bool, nat_eq, nat_lt, ◌&&◌, List, [], ◌∷◌, length, get_or, refl, ap, sym, ◌∙◌, subst, arith}
 use Rattle.std.specs.Prelude.{IsTrue}
 use Rattle.std.proofs.lemmas.Bool.{and_from}
 use Rattle.core_expr.specs.Tree.{Tree}
@@ -10,7 +10,7 @@ use Rattle.seq_calculus.specs.declared.lists.ProofNode.{ProofNode}
 use Rattle.seq_calculus.specs.Calculus.{Rule, Proof, Proofs}
 use Rattle.seq_calculus.specs.Calculus.Proof.{step}
 use Rattle.seq_calculus.specs.Calculus.Proofs.{no_more, more}
-use Rattle.seq_calculus.specs.Lists.{Lists, AreLists, step_fits, expression_counts, premise_counts}
+use Rattle.seq_calculus.specs.Lists.{Lists, AreLists, step_fits, premise_counts}
 use Rattle.seq_calculus.specs.Steps.{rule_of, proofs_at, proofs_of, table_of}
 use Rattle.proof_text.specs.Frames.{no_node, parts_at}
 use Rattle.proof_text.specs.Texts.{trees_in, tree_in}
@@ -19,7 +19,7 @@ use Rattle.text_writer.specs.Proofs.{Kept, kept}
 use Rattle.text_writer.specs.Tasks.{step_at, proof_at}
 use Rattle.text_writer.proofs.TreeLaws.{IsTable, IsRight, AreRight}
 use Rattle.text_writer.proofs.SharedLaws.{parts_in, node-made, node-fits, node-before}
-use Rattle.text_writer.proofs.RuleLaws.{kept-step}
+use Rattle.text_writer.proofs.RuleLaws.{counts_fit, kept-step}
 use Rattle.text_writer.proofs.StepLaws.{step-is, proof-is}
 
 -- ---- the trees of a table
@@ -64,10 +64,7 @@ abbrev mutual
   AreFit (more p ps) = IsFit p × AreFit ps
 
 abbrev form : ℕ → List ℕ → ℕ → ℕ → Bool
-form r ns a b =
-    nat_lt r 22 && nat_eq b (get_or premise_counts r 0)
-    && cond (nat_eq r 3) (nat_eq (length ns) 2 && nat_eq a (get_or ns 0 0 + get_or ns 1 0))
-    (cond (nat_eq r 21) (nat_eq (length ns) 3 && nat_eq a (get_or ns 2 0)) (nat_eq (length ns) 0 && nat_eq a (get_or expression_counts r 0)))
+form r ns a b = nat_lt r 22 && nat_eq b (get_or premise_counts r 0) && counts_fit r ns a
 
 -- a step's form is a matter of how many expressions and premises it has
 same-form : (r : ℕ) (ns xs ys qs ps : List ℕ) → length xs ≡ length ys → length qs ≡ length ps

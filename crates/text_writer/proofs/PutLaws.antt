@@ -1,5 +1,7 @@
 -- A node that is put into a table stands there.
-use Rattle.std.proofs.Common.{◌≡◌, suc, ◌+◌, ◌<◌, Bool, true, false, cond, not, ◌||◌, List, [], ◌∷◌, ◌++◌, length, get_or, refl, ap, sym, ◌∙◌, arith, append_assoc, append-nil}
+use Rattle.std.proofs.Common.{◌≡◌, suc, ◌+◌, ◌<◌, Bool, true, false, cond, not, ◌||◌, List, [], ◌∷◌, ◌++◌, length, get_or, refl, ap, sym, ◌∙◌, arith, append_assoc, append-nil, length-append, eqb, eq-eqb, ne_eqb}
+use Rattle.std.proofs.lemmas.List.{get_or_at}
+use Rattle.std.proofs.lemmas.List.Folds.{list_any-append, list_any_at, prefix_len-append}
 use Rattle.std.specs.List.{list_any}
 use Rattle.seq_calculus.specs.declared.lists.ProofNode.{ProofNode}
 use Rattle.text_writer.specs.Keys.{same_node, node-Decides}
@@ -20,38 +22,6 @@ join {ns} x y = record { more = x.more ++ y.more; new_is = y.new_is ∙ ap (λ l
 abbrev is_in : ProofNode → List ProofNode → Bool
 is_in n ns = list_any (same_node n) ns
 
-is_in-front : (n : ProofNode) (ns ms : List ProofNode) → is_in n ns ≡ true → is_in n (ns ++ ms) ≡ true
-is_in-front n [] ms h = cc
-is_in-front n (m ∷ ns) ms h = go (same_node n m) (is_in-front n ns ms) h
-  where
-    go : (b : Bool) → (is_in n ns ≡ true → is_in n (ns ++ ms) ≡ true) → (b || is_in n ns) ≡ true → (b || is_in n (ns ++ ms)) ≡ true
-    go true f h = refl
-    go false f h = f h
-
-is_in-seam : (n : ProofNode) (ns ms : List ProofNode) → is_in n (ns ++ n ∷ ms) ≡ true
-is_in-seam n [] ms = ap (λ b. b || is_in n ms) ((node-Decides n n).1 refl)
-is_in-seam n (m ∷ ns) ms = go (same_node n m) (is_in-seam n ns ms)
-  where
-    go : (b : Bool) → is_in n (ns ++ n ∷ ms) ≡ true → (b || is_in n (ns ++ n ∷ ms)) ≡ true
-    go true h = refl
-    go false h = h
-
-seek-front : (n : ProofNode) (ns ms : List ProofNode) → is_in n ns ≡ true → seek n (ns ++ ms) ≡ seek n ns
-seek-front n [] ms h = cc
-seek-front n (m ∷ ns) ms h = go (same_node n m) (seek-front n ns ms) h
-  where
-    go : (b : Bool) → (is_in n ns ≡ true → seek n (ns ++ ms) ≡ seek n ns) → (b || is_in n ns) ≡ true → cond (not b) (1 + seek n (ns ++ ms)) 0 ≡ cond (not b) (1 + seek n ns) 0
-    go true f h = refl
-    go false f h = ap (λ k. 1 + k) (f h)
-
-seek-seam : (n : ProofNode) (ns ms : List ProofNode) → is_in n ns ≡ false → seek n (ns ++ n ∷ ms) ≡ length ns
-seek-seam n [] ms h = ap (λ b. cond (not b) (1 + seek n ms) 0) ((node-Decides n n).1 refl)
-seek-seam n (m ∷ ns) ms h = go (same_node n m) (seek-seam n ns ms) h
-  where
-    go : (b : Bool) → (is_in n ns ≡ false → seek n (ns ++ n ∷ ms) ≡ length ns) → (b || is_in n ns) ≡ false → cond (not b) (1 + seek n (ns ++ n ∷ ms)) 0 ≡ length (m ∷ ns)
-    go true f h = cc
-    go false f h = omega (arith, f h)
-
 pub seek-none : (n : ProofNode) (ns : List ProofNode) → is_in n ns ≡ false → seek n ns ≡ length ns
 seek-none n [] h = refl
 seek-none n (m ∷ ns) h = go (same_node n m) (seek-none n ns) h
@@ -70,6 +40,28 @@ seek-some n (m ∷ ns) d h = go (same_node n m) refl (seek-some n ns d) h
         let s = f h in
         let k : 1 + seek n ns ≡ suc (seek n ns) = omega arith in
         (omega (arith, s.0), ap (λ k. get_or (m ∷ ns) k d) k ∙ s.1)
+
+itself : (n : ProofNode) → same_node n n ≡ true
+itself n = (node-Decides n n).1 refl
+
+is_in-front : (n : ProofNode) (ns ms : List ProofNode) → is_in n ns ≡ true → is_in n (ns ++ ms) ≡ true
+is_in-front n ns ms h = list_any-append (same_node n) ns ms ∙ ap (λ b. b || is_in n ms) h
+
+is_in-seam : (n : ProofNode) (ns ms : List ProofNode) → is_in n (ns ++ n ∷ ms) ≡ true
+is_in-seam n ns ms =
+    list_any_at (same_node n) (ns ++ n ∷ ms) (length ns) n (omega (arith, length-append ns (n ∷ ms))) (ap (same_node n) (get_or_at ns n ms n (length ns) refl) ∙ itself n)
+
+-- the place of a node in a longer table
+seek-append : (n : ProofNode) (ns ms : List ProofNode) (b : Bool) → eqb (seek n ns) (length ns) ≡ b → seek n (ns ++ ms) ≡ cond b (length ns + seek n ms) (seek n ns)
+seek-append n ns ms b e = prefix_len-append (λ m. not (same_node n m)) ns ms ∙ ap (λ b. cond b (length ns + seek n ms) (seek n ns)) e
+
+seek-front : (n : ProofNode) (ns ms : List ProofNode) → is_in n ns ≡ true → seek n (ns ++ ms) ≡ seek n ns
+seek-front n ns ms h = let l = (seek-some n ns n h).0 in seek-append n ns ms false (ne_eqb _ _ (λ e. (let z : ⊥ = omega (arith, l, e) in z)))
+
+seek-seam : (n : ProofNode) (ns ms : List ProofNode) → is_in n ns ≡ false → seek n (ns ++ n ∷ ms) ≡ length ns
+seek-seam n ns ms h =
+    let z : seek n (n ∷ ms) ≡ 0 = ap (λ b. cond (not b) (1 + seek n ms) 0) (itself n) in
+    omega (arith, seek-append n ns (n ∷ ms) true (eq-eqb _ _ (seek-none n ns h)), z)
 
 -- a node that is in the table already
 pub put-there : (n : ProofNode) (ns : List ProofNode) → is_in n ns ≡ true → put n ns ≡ here ns (seek n ns)

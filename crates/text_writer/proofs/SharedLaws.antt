@@ -14,7 +14,7 @@ use Rattle.text_writer.specs.Tables.{Placed, AllPlaced, put, root, enter, enter_
 use Rattle.text_writer.specs.Shared.{here, enter_last_first, last_first, place_of, AreNoted, ArePlaces}
 use Rattle.text_writer.proofs.PutLaws.{Extends, same}
 use Rattle.text_writer.proofs.EnterLaws.{here_all, extends, again, again-all, enter-listed}
-use Rattle.text_writer.proofs.TreeLaws.{IsTable, node-at, below-wider}
+use Rattle.text_writer.proofs.TreeLaws.{IsTable, node-at, below-wider, below-append}
 
 pub enter-append : (ns : List ProofNode) (is js : List ℕ) (a : Placed) → enter_last_first ns (is ++ js) a ≡ enter_last_first ns is (enter_last_first ns js a)
 enter-append ns [] js a = refl
@@ -106,6 +106,7 @@ module _ (law : NodeShows) (ns : List ProofNode) (h : IsTable ns) (i : ℕ) (l :
 -- the place of a tree that was entered is noted
 pub noted-more : (ns table : List ProofNode) (places : List (Option ℕ)) (i : ℕ) (new : Placed) → i < length ns → AreNoted ns table places → enter (tree_in ns i) table ≡ new → AreNoted ns new.nodes (slice_set places i (Some new.place))
 noted-more ns table places i new l n e = record {
+  nodes = n.nodes;
   count = length-set places i (Some new.place) ∙ n.count;
   stand = λ j p h. go j p h (nat_eq j i) refl;
 }
@@ -124,10 +125,6 @@ noted-more ns table places i new l n e = record {
         let s = n.stand j p (sym (get_or-set_other places i j (Some new.place) None q) ∙ h) in
         let x : Extends table new.nodes = subst (λ (y : Placed). Extends table y.nodes) e (extends (tree_in ns i) table) in
         again (tree_in ns j) table new.nodes (subst (λ (y : Placed). Extends y.nodes new.nodes) (sym s) x) ∙ ap (λ (y : Placed). here new.nodes y.place) s
-
-pub below-append : (n : ℕ) (is js : List ℕ) → AreBelow n is → AreBelow n js → AreBelow n (is ++ js)
-below-append n [] js b c = c
-below-append n (i ∷ is) js b c = (b.0, below-append n is js b.1 c)
 
 pub below-split : (n : ℕ) (is js : List ℕ) → AreBelow n (is ++ js) → AreBelow n is × AreBelow n js
 below-split n [] js b = (tt, b)

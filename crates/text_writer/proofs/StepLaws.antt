@@ -1,6 +1,6 @@
 -- The steps of a proof are entered by tasks as its tree is.
 use Rattle.std.proofs.Common.{◌≡◌, ℕ, zero, suc, ◌+◌, ◌<◌, List, [], ◌∷◌, ◌++◌, length, map, get_or, refl, ap, sym, ◌∙◌, subst, arith, append_assoc, append-nil}
-use Rattle.std.proofs.lemmas.List.{get_or_append_left, get_or_at, length_push}
+use Rattle.std.proofs.lemmas.List.{get_or_append_left, get_or_at, length_push, map-append}
 use Rattle.core_expr.specs.Tree.{Tree}
 use Rattle.core_expr.specs.Nodes.{AreBelow, picked}
 use Rattle.seq_calculus.specs.declared.lists.ProofStep.{ProofStep}
@@ -16,8 +16,7 @@ use Rattle.text_writer.specs.Proofs.{Kept, AllEntered, with_step, enter_proof, e
 use Rattle.text_writer.specs.Tasks.{no_step, step_at, proof_at, behind, kept_step, act, acts, visits, step_of}
 use Rattle.text_writer.proofs.RowLaws.{last-are, below-are}
 use Rattle.text_writer.proofs.RuleLaws.{kept-step}
-use Rattle.text_writer.proofs.SharedLaws.{below-append}
-use Rattle.text_writer.proofs.TreeLaws.{below-wider}
+use Rattle.text_writer.proofs.TreeLaws.{below-append, below-wider}
 
 pub same-proofs : (n : ℕ) (ps qs : List Proof) (is : List ℕ) → AreBelow n is → ((j : ℕ) → j < n → get_or ps j no_proof ≡ get_or qs j no_proof) → proofs_at ps is ≡ proofs_at qs is
 same-proofs n ps qs [] b e = refl
@@ -92,18 +91,14 @@ waits l i a ts new h k e =
     let vs = visits (step_at l i).premises in
     ap (λ us. acts l us a) e ∙ acts-append l (ts ++ Finish i ∷ []) vs a ∙ acts-append l ts (Finish i ∷ []) (acts l vs a) ∙ ap (acts l ts) (finishes l i a h k)
 
-pub steps-append : (ts us : List Task) → map step_of (ts ++ us) ≡ map step_of ts ++ map step_of us
-steps-append [] us = refl
-steps-append (t ∷ ts) us = ap (λ l. step_of t ∷ l) (steps-append ts us)
-
 visits-below : (n : ℕ) (is : List ℕ) → AreBelow n is → AreBelow n (map step_of (visits is))
 visits-below n [] b = tt
 visits-below n (i ∷ is) b =
-    subst (AreBelow n) (sym (steps-append (visits is) (Visit i ∷ []))) (below-append n (map step_of (visits is)) (i ∷ []) (visits-below n is b.1) (b.0, tt))
+    subst (AreBelow n) (sym (map-append step_of (visits is) (Visit i ∷ []))) (below-append n (map step_of (visits is)) (i ∷ []) (visits-below n is b.1) (b.0, tt))
 
 pub waits-below : (n i : ℕ) (is : List ℕ) (ts new : List Task) → AreBelow n (map step_of ts) → i < n → AreBelow i is → new ≡ (ts ++ Finish i ∷ []) ++ visits is → AreBelow n (map step_of new)
 waits-below n i is ts new b l c e =
     subst (λ us. AreBelow n (map step_of us)) (sym e)
-    (subst (AreBelow n) (sym (steps-append (ts ++ Finish i ∷ []) (visits is)))
+    (subst (AreBelow n) (sym (map-append step_of (ts ++ Finish i ∷ []) (visits is)))
     (below-append n (map step_of (ts ++ Finish i ∷ [])) (map step_of (visits is))
-    (subst (AreBelow n) (sym (steps-append ts (Finish i ∷ []))) (below-append n (map step_of ts) (i ∷ []) b (l, tt))) (visits-below n is (below-wider i n is (omega arith) c))))
+    (subst (AreBelow n) (sym (map-append step_of ts (Finish i ∷ []))) (below-append n (map step_of ts) (i ∷ []) b (l, tt))) (visits-below n is (below-wider i n is (omega arith) c))))

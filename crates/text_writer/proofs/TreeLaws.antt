@@ -58,13 +58,13 @@ pub picked-stays : (ns new : List ProofNode) (is : List ℕ) → Extends ns new 
 picked-stays ns new [] x b = refl
 picked-stays ns new (i ∷ is) x b = λ j. tree-stays ns new i x b.0 j ∷ picked-stays ns new is x b.1 j
 
-below-last : (n : ℕ) (is : List ℕ) (i : ℕ) → AreBelow n is → i < n → AreBelow n (is ++ i ∷ [])
-below-last n [] i b l = (l, tt)
-below-last n (j ∷ is) i b l = (b.0, below-last n is i b.1 l)
+pub below-append : (n : ℕ) (is js : List ℕ) → AreBelow n is → AreBelow n js → AreBelow n (is ++ js)
+below-append n [] js b c = c
+below-append n (i ∷ is) js b c = (b.0, below-append n is js b.1 c)
 
-picked-last : (ts : List Tree) (is : List ℕ) (i : ℕ) → picked ts (is ++ i ∷ []) ≡ picked ts is ++ get_or ts i true_ ∷ []
-picked-last ts [] i = refl
-picked-last ts (j ∷ is) i = ap (λ us. get_or ts j true_ ∷ us) (picked-last ts is i)
+picked-append : (ts : List Tree) (is js : List ℕ) → picked ts (is ++ js) ≡ picked ts is ++ picked ts js
+picked-append ts [] js = refl
+picked-append ts (i ∷ is) js = ap (λ us. get_or ts i true_ ∷ us) (picked-append ts is js)
 
 nodes-more : (i k : ℕ) (ns : List Node) (n : Node) → k ≡ i + length ns → AreNodes i ns → IsNode n k → AreNodes i (ns ++ n ∷ [])
 nodes-more i k [] n e h w = let z : k ≡ i = omega arith in (subst (IsNode n) z w, tt)
@@ -121,6 +121,16 @@ put-stands n ns t h w e = go (list_any (same_node n) ns) refl
           tree = ap (λ us. get_or us (length ns) true_) ts ∙ get_or_at (trees_in ns) (tree_over (trees_in ns) (node_of n)) [] true_ (length ns) (count-in ns) ∙ e;
         })
 
+one-stands : (t : Tree) (p : Placed) → Stands t p → AllStand (t ∷ []) (here_all p.nodes (p.place ∷ []))
+one-stands t p h = record { table = h.table; within = (h.within, tt); trees = λ i. h.tree i ∷ [] }
+
+both-stand : (ts us : List Tree) (a b : AllPlaced) → AllStand ts a → AllStand us b → Extends a.nodes b.nodes → AllStand (ts ++ us) (here_all b.nodes (a.places ++ b.places))
+both-stand ts us a b g h x = record {
+  table = h.table;
+  within = below-append (length b.nodes) a.places b.places (below-wider (length a.nodes) (length b.nodes) a.places (extends-length a.nodes b.nodes x) g.within) h.within;
+  trees = picked-append (trees_in b.nodes) a.places b.places ∙ (λ i. (picked-stays a.nodes b.nodes a.places x g.within ∙ g.trees) i ++ h.trees i);
+}
+
 module _ (law : CanonicalIsNode) where
   root-stands : (t : Tree) (a : AllPlaced) → IsRight t → AllStand (subtrees t) a → Stands t (root t a)
   root-stands t a w h =
@@ -128,22 +138,6 @@ module _ (law : CanonicalIsNode) where
       let n : ProofNode = node_over (kind_of t) (root_numbers t) a.places in
       let k : length (subtrees t) ≡ length a.places = ap length (sym h.trees) ∙ length-picked (trees_in a.nodes) a.places in
       put-stands n a.nodes t h.table (subst (λ k. IsTrue (node_fits n.head n.numbers k)) k l.1, h.within) (ap (node_make n.head n.numbers) h.trees ∙ l.0)
-
-  -- a tree before others
-  first-stands : (t : Tree) (ts : List Tree) (p : Placed) (a : AllPlaced) → Stands t p → AllStand ts a → Extends p.nodes a.nodes → AllStand (t ∷ ts) (here_all a.nodes (p.place ∷ a.places))
-  first-stands t ts p a h g x = record {
-    table = g.table;
-    within = (omega (arith, h.within, extends-length p.nodes a.nodes x), g.within);
-    trees = λ i. (tree-stays p.nodes a.nodes p.place x h.within ∙ h.tree) i ∷ g.trees i;
-  }
-
-  -- a tree behind others
-  last-stands : (ts : List Tree) (t : Tree) (a : AllPlaced) (p : Placed) → AllStand ts a → Stands t p → Extends a.nodes p.nodes → AllStand (ts ++ t ∷ []) (here_all p.nodes (a.places ++ p.place ∷ []))
-  last-stands ts t a p g h x = record {
-    table = h.table;
-    within = below-last (length p.nodes) a.places p.place (below-wider (length a.nodes) (length p.nodes) a.places (extends-length a.nodes p.nodes x) g.within) h.within;
-    trees = picked-last (trees_in p.nodes) a.places p.place ∙ (λ i. (picked-stays a.nodes p.nodes a.places x g.within ∙ g.trees) i ++ h.tree i ∷ []);
-  }
 
   mutual
     pub stands : (t : Tree) (ns : List ProofNode) → IsRight t → IsTable ns → Stands t (enter t ns)
@@ -157,7 +151,7 @@ module _ (law : CanonicalIsNode) where
         let v = and_parts (are_canonical ps) (is_canonical e) w.1 in
         let a = enter_parts ps ns in
         let g = parts-stand ps ns (u.0, v.0) h in
-        root-stands (bind b ps e) (with_last a (enter e)) w (last-stands (list_of ps) e a (enter e a.nodes) g (stands e a.nodes (u.1, v.1) g.table) (extends e a.nodes))
+        root-stands (bind b ps e) (with_last a (enter e)) w (both-stand (list_of ps) (e ∷ []) a _ g (one-stands e (enter e a.nodes) (stands e a.nodes (u.1, v.1) g.table)) (extends e a.nodes))
 
     parts-stand : (ps : Parts) (ns : List ProofNode) → IsTrue (are_well_formed ps) × IsTrue (are_canonical ps) → IsTable ns → AllStand (list_of ps) (enter_parts ps ns)
     parts-stand end ns w h = record { table = h; within = tt; trees = refl }
@@ -165,13 +159,13 @@ module _ (law : CanonicalIsNode) where
         let u = and_parts (is_well_formed e) (are_well_formed ps) w.0 in
         let v = and_parts (is_canonical e) (are_canonical ps) w.1 in
         let s = stands e ns (u.0, v.0) h in
-        first-stands e (list_of ps) (enter e ns) (enter_parts ps (enter e ns).nodes) s (parts-stand ps (enter e ns).nodes (u.1, v.1) s.table) (extends-parts ps (enter e ns).nodes)
+        both-stand (e ∷ []) (list_of ps) _ (enter_parts ps (enter e ns).nodes) (one-stands e (enter e ns) s) (parts-stand ps (enter e ns).nodes (u.1, v.1) s.table) (extends-parts ps (enter e ns).nodes)
 
   pub all-stand : (ts : List Tree) (ns : List ProofNode) → AreRight ts → IsTable ns → AllStand ts (enter_all ts ns)
   all-stand [] ns w h = record { table = h; within = tt; trees = refl }
   all-stand (t ∷ ts) ns w h =
       let s = stands t ns w.0 h in
-      first-stands t ts (enter t ns) (enter_all ts (enter t ns).nodes) s (all-stand ts (enter t ns).nodes w.1 s.table) (extends-all ts (enter t ns).nodes)
+      both-stand (t ∷ []) ts _ (enter_all ts (enter t ns).nodes) (one-stands t (enter t ns) s) (all-stand ts (enter t ns).nodes w.1 s.table) (extends-all ts (enter t ns).nodes)
 
 both-right : (ts : List Tree) → AreWellFormed ts → AreCanonical ts → AreRight ts
 both-right [] w c = tt

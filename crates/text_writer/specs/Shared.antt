@@ -1,7 +1,9 @@
 -- The trees of nodes that share their parts, entered into another table.
 use Rattle.std.specs.Prelude.{◌≡◌, ℕ, List, [], ◌∷◌, ◌++◌, length, map, Option, Some, None}
 use Rattle.std.proofs.Common.{get_or}
+use Rattle.core_expr.specs.Nodes.{AreNodes}
 use Rattle.seq_calculus.specs.declared.lists.ProofNode.{ProofNode}
+use Rattle.seq_calculus.specs.Lists.{node_of}
 use Rattle.proof_text.specs.Texts.{tree_in}
 use Rattle.text_writer.specs.Tables.{Placed, enter}
 
@@ -22,8 +24,9 @@ last_first (i ∷ is) = last_first is ++ i ∷ []
 abbrev pub place_of : List (Option ℕ) → ℕ → Option ℕ
 place_of places i = get_or places i None
 
--- where a place is noted for a node, its tree stands there in the table already
+-- the nodes are those of a table, and where a place is noted for one, its tree stands there in the other table already
 pub record AreNoted (ns table : List ProofNode) (places : List (Option ℕ)) : Type 0 where
+  pub nodes : AreNodes 0 (map node_of ns)
   pub count : length places ≡ length ns
   pub stand : (i p : ℕ) → place_of places i ≡ Some p → enter (tree_in ns i) table ≡ here table p
 

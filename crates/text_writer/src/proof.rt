@@ -18,10 +18,10 @@ use std::alloc::Global;
 
 /// The lists of a proof as they grow, and the places of the steps that are still to be premises.
 #[derive(Drop)]
-pub struct Made {
-    pub growing: Growing,
-    pub steps: Vec<ProofStep>,
-    pub places: Vec<u64>,
+struct Made {
+    growing: Growing,
+    steps: Vec<ProofStep>,
+    places: Vec<u64>,
 }
 
 /// The last places, so many, which stand no more.

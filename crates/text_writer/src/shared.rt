@@ -25,6 +25,7 @@ pub struct Growing {
 
 /// A table in which nothing stands yet, for the trees of these nodes.
 pub fn empty(alloc: Global, nodes: &[ProofNode]) -> Result<Growing, Memory>
+    requires { AreNodes 0 (map node_of nodes.now) }
     ensures table { IfOk result (λ g. g.table.keys ≡ []) }
     ensures noted { IfOk result (λ g. AreNoted nodes.now g.table.keys g.places.items) }
 {
@@ -67,7 +68,6 @@ fn put_over(
     i: u64,
     parts: Items<u64>,
 ) -> Result<u64, Memory>
-    requires nodes { AreNodes 0 (map node_of nodes.now) }
     requires noted { AreNoted nodes.now growing.old.table.keys growing.old.places.items }
     requires node { i < length nodes.now }
     requires parts { ArePlaces growing.old.places.items (parts_at nodes.now i) parts }
@@ -90,7 +90,6 @@ fn go_on(
     waiting: &mut Vec<u64>,
     i: u64,
 ) -> Result<u64, Memory>
-    requires nodes { AreNodes 0 (map node_of nodes.now) }
     requires noted { AreNoted nodes.now growing.old.table.keys growing.old.places.items }
     requires waiting { AreBelow (length nodes.now) waiting.old.items }
     requires node { i < length nodes.now }
@@ -123,13 +122,10 @@ pub fn enter_at(
     growing: &mut Growing,
     root: u64,
 ) -> Result<u64, Memory>
-    requires nodes { AreNodes 0 (map node_of nodes.now) }
     requires noted { AreNoted nodes.now growing.old.table.keys growing.old.places.items }
     requires root { root < length nodes.now }
-    ensures table { OnOk result (growing.new.table.keys
-        ≡ (enter (tree_in nodes.now root) growing.old.table.keys).nodes) }
-    ensures place { IfOk result (λ p. p
-        ≡ (enter (tree_in nodes.now root) growing.old.table.keys).place) }
+    ensures entered { IfOk result (λ p. here growing.new.table.keys p
+        ≡ enter (tree_in nodes.now root) growing.old.table.keys) }
     ensures noted { OnOk result (AreNoted nodes.now growing.new.table.keys growing.new.places.items) }
 {
     let mut waiting = vec![in alloc; root]?;
@@ -150,7 +146,6 @@ pub fn enter_each(
     growing: &mut Growing,
     roots: &[u64],
 ) -> Result<Items<u64>, Memory>
-    requires nodes { AreNodes 0 (map node_of nodes.now) }
     requires noted { AreNoted nodes.now growing.old.table.keys growing.old.places.items }
     requires roots { AreBelow (length nodes.now) roots.now }
     ensures table { OnOk result (growing.new.table.keys

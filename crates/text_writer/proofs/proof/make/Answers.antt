@@ -1,10 +1,11 @@
 use Rattle.std.proofs.Common.{◌≡◌, [], ◌∷◌, length, map, ap, sym, ◌∙◌, subst, rules}
+use Rattle.std.proofs.lemmas.List.{map-append}
 use Rattle.core_expr.specs.Nodes.{AreBelow}
 use Rattle.seq_calculus.specs.Steps.{proof_of}
 use Rattle.text_writer.specs.Proofs.{AllEntered, enter_proof, no_lists}
 use Rattle.text_writer.specs.Tasks.{state, behind, acts, step_of}
 use Rattle.text_writer.proofs.SharedLaws.{below-split}
-use Rattle.text_writer.proofs.StepLaws.{acts-append, steps-append}
+use Rattle.text_writer.proofs.StepLaws.{acts-append}
 use Rattle.text_writer.proofs.proof.make.Goals as goal
 use Rattle.text_writer.proofs.proof.make.Goals.{In-Some, After-drop-tasks}
 
@@ -23,7 +24,7 @@ returns-in_default-clause-steps c = ap (λ (a : AllEntered). a.lists.steps) (all
 below : (c : In-Some) → AreBelow (length c.args.proof.now.steps) (map step_of c.pop.new.self.items) × AreBelow (length c.args.proof.now.steps) (step_of c.in-Some.task ∷ [])
 below c =
     let n = length c.args.proof.now.steps in
-    below-split n (map step_of c.pop.new.self.items) (step_of c.in-Some.task ∷ []) (subst (AreBelow n) (ap (map step_of) c.in-Some.ensures.items ∙ steps-append c.pop.new.self.items (c.in-Some.task ∷ [])) c.loop.invariant.tasks)
+    below-split n (map step_of c.pop.new.self.items) (step_of c.in-Some.task ∷ []) (subst (AreBelow n) (ap (map step_of) c.in-Some.ensures.items ∙ map-append step_of c.pop.new.self.items (c.in-Some.task ∷ [])) c.loop.invariant.tasks)
 
 pub turn-requires-clause-tasks : goal.turn-requires-clause-tasks
 turn-requires-clause-tasks c = (below (goal.at.turn-requires-clause-tasks c).In-Some).0

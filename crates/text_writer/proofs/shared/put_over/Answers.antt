@@ -12,7 +12,7 @@ entered : (c : In_ok-place) → here c.put.new.nodes.keys c.in_ok-place.place �
 entered c =
     let n = c.index-nodes-i.is ∙ get_or_default c.args.nodes.now c.args.i c.index-nodes-i.result no_node c.requires.node in
     let e = c.in_ok-node.ensures ∙ ap (λ n. record { head = n.head; numbers = n.numbers; parts = c.args.parts }) n in
-    puts c.node_shows.ensures c.args.nodes.now c.requires.nodes c.args.i c.requires.node c.args.growing.now.table.keys c.put.new.nodes.keys c.args.growing.now.places.items c.args.parts c.in_ok-place.place c.in_ok-node.node
+    puts c.node_shows.ensures c.args.nodes.now c.requires.noted.nodes c.args.i c.requires.node c.args.growing.now.table.keys c.put.new.nodes.keys c.args.growing.now.places.items c.args.parts c.in_ok-place.place c.in_ok-node.node
     c.requires.noted c.requires.parts e c.in_ok-place.ensures.nodes c.in_ok-place.ensures.place
 
 pub returns-clause-entered : goal.returns-clause-entered
