@@ -1,3 +1,5 @@
 pub mod LineLaws
 pub mod RecordLaws
 pub mod Keeping
+pub mod KeyText
+pub mod WriteLaws

@@ -12,11 +12,11 @@ use Rattle.cache_file.specs.Records.{IsRead, IsShown, records_in, skipped_in, pa
 use Rattle.cache_file.specs.Laws.{RecordsAreOne}
 
 -- a list shows one form
-pub form_once : ObligationsDiffer → (l : List ℕ) (a b : Canon) → Shows l a → Shows l b → a ≡ b
+form_once : ObligationsDiffer → (l : List ℕ) (a b : Canon) → Shows l a → Shows l b → a ≡ b
 form_once differ l a b p q = p.3 ∙ ap canon_of (differ p.0 q.0 p.1 q.1 (p.2 ∙ sym q.2)) ∙ sym q.3
 
 -- a line has parts once
-pub parts_once : (bytes : List ℕ) (l m : Line) → IsLine bytes l → IsLine bytes m → l ≡ m
+parts_once : (bytes : List ℕ) (l m : Line) → IsLine bytes l → IsLine bytes m → l ≡ m
 parts_once bytes l m p q = same_Some l m (sym p.parts ∙ q.parts)
 
 -- parts keep one record

@@ -7,7 +7,7 @@ use memchr::memchr;
 use std::alloc::Global;
 
 /// The byte behind each line but the last.
-const LINE_FEED: u8 = 10;
+pub const LINE_FEED: u8 = 10;
 
 /// The bytes before the first line feed, and those behind it.
 fn split_line(bytes: &[u8]) -> (&[u8], &[u8])

@@ -1,10 +1,10 @@
 //! A cache, read from its file's bytes.
-ghost use Rattle.std.specs.Prelude.{◌≡◌, ◌<◌, [], ◌∷◌, ◌++◌, length, map, List, Option, Ok, IfOk, OnOk};
+ghost use Rattle.std.specs.Prelude.{◌≡◌, ◌<◌, [], ◌∷◌, ◌++◌, length, map, List, Option, IfOk, OnOk};
 ghost use Rattle.std.specs.List.{AllZip};
 ghost use Rattle.proof_cache.specs.Records.{Keeps};
 ghost use Rattle.proof_cache.specs.declared.record.Record.{Record};
 ghost use Rattle.cache_file.specs.Lines.{lines_of};
-ghost use Rattle.cache_file.specs.Records.{AreRecords, Holds, IsAnswered};
+ghost use Rattle.cache_file.specs.Records.{AreRecords, Holds, IsAnswered, IsRead};
 
 use crate::lines::lines;
 use crate::record::read_record;
@@ -19,18 +19,17 @@ fn read_all(
     rt: &(impl Threads + Sync),
     alloc: Global,
     lines: &[&[u8]],
-) -> Result<Vec<Result<Option<Record>, Memory>>, Memory>
-    ensures { IfOk result (λ v. AllZip IsAnswered (map (λ l. l.now) lines.entry.now) v.items) }
+) -> Result<Vec<Option<Record>>, Memory>
+    ensures { IfOk result (λ v. AllZip IsRead (map (λ l. l.now) lines.entry.now) v.items) }
 {
-    let reads = lines
+    lines
         .par_iter()
         .map(
             |line: &&[u8]| -> Result<Option<Record>, Memory>
                 ensures { IsAnswered line.entry.now.now result }
             { read_record(alloc, *line) },
         )
-        .collect(rt, alloc)?;
-    Ok(reads)
+        .collect::<Result<Vec<_>, _>>(rt, alloc)?
 }
 
 /// Keeps what is a record, and counts what is none.
@@ -45,14 +44,13 @@ fn keep(cache: &mut Cache, read: Option<Record>) -> Result<(), Memory>
     Ok(())
 }
 
-/// Keeps the records of these, and counts the others.
-fn keep_all(alloc: Global, reads: Vec<Result<Option<Record>, Memory>>) -> Result<Cache, Memory>
-    ensures { IfOk result (λ k. (os : List (Option Record)) × (map Ok os ≡ reads.items)
-        × Holds k os) }
+/// Keeps the records among these, and counts the others.
+fn keep_all(alloc: Global, reads: Vec<Option<Record>>) -> Result<Cache, Memory>
+    ensures { IfOk result (λ k. Holds k reads.items) }
 {
     let mut cache = Cache::none(alloc);
     for read in reads {
-        keep(&mut cache, read?)?;
+        keep(&mut cache, read)?;
     }
     Ok(cache)
 }

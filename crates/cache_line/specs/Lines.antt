@@ -1,5 +1,6 @@
 -- What a line of the cache is, as JSON.
-use Rattle.std.specs.Prelude.{◌≡◌, ℕ, List, [], ◌∷◌, Option, Some, None, option_and_then, option_map, map, codes, if◌then◌else◌}
+use Rattle.std.specs.Prelude.{◌≡◌, ℕ, List, [], ◌∷◌, Bool, not, nat_eq, Option, Some, None, option_and_then, option_map, map, codes, if◌then◌else◌}
+use Rattle.std.specs.List.{list_all}
 use Rattle.std.specs.Str.{bytes_eq, IsUtf8}
 use Rattle.serde_json.specs.Data.{Data, number, unsigned, string, array, object, Items, no_items, item, Members, no_members, member}
 use Rattle.serde_json.specs.Read.{read}
@@ -46,3 +47,7 @@ data_for l =
 -- a line as it is written
 unfoldable pub line_text : Line → List ℕ
 line_text l = compact_text (data_for l)
+
+-- no line feed is among the bytes
+abbrev pub is_one_line : List ℕ → Bool
+is_one_line = list_all (λ b. not (nat_eq b 10))

@@ -1,9 +1,9 @@
 //! Lines as they are written.
-ghost use Rattle.std.specs.Prelude.{◌≡◌, IfOk};
+ghost use Rattle.std.specs.Prelude.{◌≡◌, true, IfOk};
 ghost use Rattle.serde_json.specs.View.{view};
 ghost use Rattle.serde_json.specs.Data.{array};
 ghost use Rattle.cache_line.specs.declared.line.Line.{Line};
-ghost use Rattle.cache_line.specs.Lines.{IsLine, items_for, data_for, line_text};
+ghost use Rattle.cache_line.specs.Lines.{IsLine, is_one_line, items_for, data_for, line_text};
 
 use core_expr::Memory;
 use serde_json::{Value, json};
@@ -39,6 +39,7 @@ pub fn write_line(
 ) -> Result<Vec<u8>, Memory>
     ensures text { IfOk result (λ b. b.items
         ≡ line_text (record { key = key.now; obligation = obligation.now; proof = proof.now })) }
+    ensures one_line { IfOk result (λ b. is_one_line b.items ≡ true) }
     ensures read { IfOk result (λ b. IsLine b.items
         (record { key = key.now; obligation = obligation.now; proof = proof.now })) }
 {

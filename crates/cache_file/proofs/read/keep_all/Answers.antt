@@ -1,10 +1,13 @@
-use Rattle.std.proofs.Common.{◌<◌, length, arith}
-use Rattle.cache_file.proofs.Keeping.{one_held}
+use Rattle.std.proofs.Common.{◌<◌, ◌++◌, ◌∷◌, [], ◌∙◌, length, ap, sym, arith, append_assoc}
+use Rattle.std.proofs.lemmas.List.{length-append}
 use Rattle.cache_file.proofs.read.keep_all.Goals as goal
 
 pub loop-read-preserved : goal.loop-read-preserved
 loop-read-preserved c =
     let inv = c.loop-read.invariant in
-    let few : length c.args.reads.items < 18446744073709551615 = omega (arith, c.args.reads.ok, c.args.reads.small) in
-    let held = one_held c.loop-read.cache c.keep.new.cache c.loop-read.yielded _ _ c.args.reads.items c.in-Some.read _ inv.held inv.rest c.in-Some.ensures.steps.0 c.in_ok-read.was few c.in_ok-keep.ensures in
-    record { rest = held.0; held = held.1 }
+    let ys = c.loop-read.yielded in
+    let few : length ys < 18446744073709551615 = omega (arith, c.args.reads.ok, c.args.reads.small, ap length inv.rest, length-append ys c.loop-read.read-iterator.rest.items) in
+    record {
+      rest = append_assoc ys (c.in-Some.read ∷ []) _ ∙ ap (λ zs. ys ++ zs) (sym c.in-Some.ensures.steps.0) ∙ inv.rest;
+      held = c.in_ok-keep.ensures ys few inv.held;
+    }
