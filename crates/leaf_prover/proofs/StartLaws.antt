@@ -11,10 +11,15 @@ use Rattle.search_definition.specs.Search.{denied}
 use Rattle.term_bank.proofs.InstLaws.{Extends-trans}
 use Rattle.term_shapes.specs.Forms.{ArePlaced}
 use Rattle.formula_rules.proofs.Listing.{IsListing, listing_step, listing_ends}
+use Rattle.proof_checker.specs.Runs.{AreCanonical}
 use Rattle.leaf_prover.specs.Forms.{is_form_part, are_form_parts}
 
 pub canonical_part : (e : Tree) → is_form_part e ≡ true → IsCanonical e
 canonical_part e h = (and_parts (is_canonical e) (is_scoped 0 e) h).0
+
+pub all_canonical : (es : List Tree) → are_form_parts es ≡ true → AreCanonical es
+all_canonical [] h = tt
+all_canonical (e ∷ es) h = let p = and_parts (is_form_part e) (are_form_parts es) h in (canonical_part e p.0, all_canonical es p.1)
 
 pub canonical_at : (es : List Tree) (i : ℕ) (e : Tree) → are_form_parts es ≡ true → i < length es → e ≡ get_or es i e → IsCanonical e
 canonical_at [] i e h l q = absurd (omega arith)

@@ -16,4 +16,4 @@ returns-clause-keeps c rs was =
     let stored = c.in_ok-place.ensures in
     let room = c.widen.ensures ∙ ap (λ ps. if c.in_ok-place.is_new then ps ++ [] ∷ [] else ps) c.reserve.ensures.items in
     let within : c.in_ok-place.place < length lists = grind (arith, common_steps) in
-    keeps_more old new r c.in_ok-place.is_new c.in_ok-place.place lists c.self.invariant stored.keys stored.added room stored.index within c.in_ok-put.ensures.lists rs (subst (λ k. Keeps k rs) (sym c.self.view_is) was)
+    keeps_more old new r c.in_ok-place.is_new c.in_ok-place.place lists c.self.invariant stored.keys room stored.index stored.within within c.in_ok-put.ensures.lists rs (subst (λ k. Keeps k rs) (sym c.self.view_is) was)
