@@ -92,7 +92,7 @@ whole-one {A = A} x xs r w h k = go r.0 r.1 h
     go y true h e = absurd (cc)
     go y false h e = λ i. h refl i ∷ k e i
 
-whole-front : {A : Type 0} (cut : A → A × Bool) → ((x : A) → (cut x).1 ≡ false → (cut x).0 ≡ x) → (xs : List A) → (front cut xs).1 ≡ false → (front cut xs).0 ≡ xs
+pub whole-front : {A : Type 0} (cut : A → A × Bool) → ((x : A) → (cut x).1 ≡ false → (cut x).0 ≡ x) → (xs : List A) → (front cut xs).1 ≡ false → (front cut xs).0 ≡ xs
 whole-front cut h [] e = refl
 whole-front cut h (x ∷ xs) e = whole-one x xs (cut x) (front cut xs) (h x) (whole-front cut h xs) e
 
@@ -100,7 +100,7 @@ module _ (stop : Bool) where
   theorem-whole : (t : TheoremIn) → (cut_theorem (stops stop) t).1 ≡ false → (cut_theorem (stops stop) t).0 ≡ t
   theorem-whole t e = ap (λ ls. (with_leaves (stops stop) t (ls, false)).0) (whole-front (cut_leaf (stops stop)) (λ l e. refl) t.leaves e)
 
-  module-whole : (m : ModuleIn) → (cut_module (stops stop) m).1 ≡ false → (cut_module (stops stop) m).0 ≡ m
+  pub module-whole : (m : ModuleIn) → (cut_module (stops stop) m).1 ≡ false → (cut_module (stops stop) m).0 ≡ m
   module-whole m e = ap (λ ts. (with_theorems (stops stop) m (ts, false)).0) (whole-front (cut_theorem (stops stop)) theorem-whole m.theorems e)
 
   theorems-first : (ts : List TheoremIn) → AreFirst (front (cut_theorem (stops stop)) ts).0 ts

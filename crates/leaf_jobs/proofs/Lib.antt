@@ -4,3 +4,4 @@ mod Fronts
 mod FrontStatuses
 mod Walks
 mod Pairs
+mod Whole

@@ -73,7 +73,7 @@ place ks k = go (list_any (same_canon k) ks) refl
         (p.0, omega arith, p.1)
     go false e = (length ks, omega arith, at-new ks k)
 
-old-or-same : (b : Bool) (ks : List Canon) (k : Canon) (i : ℕ) (c : Canon) → slice_get (with_key b ks k) i ≡ Some c → (slice_get ks i ≡ Some c) ⊎ (k ≡ c)
+pub old-or-same : (b : Bool) (ks : List Canon) (k : Canon) (i : ℕ) (c : Canon) → slice_get (with_key b ks k) i ≡ Some c → (slice_get ks i ≡ Some c) ⊎ (k ≡ c)
 old-or-same true ks k i c e = inl e
 old-or-same false ks k i c e = ⊎_elim (λ h. inl h) (λ h. inr h.1) (old-or-new ks k i c e)
 
@@ -104,12 +104,12 @@ unique-all ks (x ∷ xs) u = unique-all (insert_key same_canon ks x) xs (unique-
 
 -- ---- verdicts
 
-there : {X : Type 0} (xs : List X) (i : ℕ) → i < length xs → (x : X) × (slice_get xs i ≡ Some x)
+pub there : {X : Type 0} (xs : List X) (i : ℕ) → i < length xs → (x : X) × (slice_get xs i ≡ Some x)
 there [] i h = absurd (omega arith)
 there (x ∷ xs) zero h = (x, refl)
 there (x ∷ xs) (suc i) h = there xs i (omega arith)
 
-fails-alike : (names : List Bytes) (v : Verdict) → shows_failure (shown_of names (came_of v)) ≡ is_failed v
+pub fails-alike : (names : List Bytes) (v : Verdict) → shows_failure (shown_of names (came_of v)) ≡ is_failed v
 fails-alike names (verdict.Proved p turns true) = refl
 fails-alike names (verdict.Proved p turns false) = refl
 fails-alike names (verdict.Saturated values turns) = refl

@@ -1,6 +1,6 @@
 //! What is reported, against the leaves of all theorems. The functions do nothing: their contracts are the laws.
 
-ghost use Rattle.leaf_jobs.specs.Laws.{UnstoppedIsWhole, ReportWithoutMemory, FrontsAreProved};
+ghost use Rattle.leaf_jobs.specs.Laws.{UnstoppedIsWhole, ReportWithoutMemory, FrontsAreProved, WholeIsGiven, WholeFindsMemory};
 
 /// Where failures do not stop the run, all leaves of all theorems are reported.
 #[tactic(auto, using(crate::proofs::Fronts::unstopped_is_whole))]
@@ -19,4 +19,16 @@ pub fn report_without_memory()
 #[tactic(auto, using(crate::proofs::FrontStatuses::fronts_are_proved))]
 pub fn fronts_are_proved()
     ensures { FrontsAreProved }
+{}
+
+/// Where the report is not stopped at a failed leaf, no job was skipped: each has a verdict.
+#[tactic(auto, using(crate::proofs::Whole::whole_is_given))]
+pub fn whole_is_given()
+    ensures { WholeIsGiven }
+{}
+
+/// Where the report is not stopped at a failed leaf, and no leaf of it wanted memory, each job found its memory.
+#[tactic(auto, using(crate::proofs::Whole::whole_finds_memory))]
+pub fn whole_finds_memory()
+    ensures { WholeFindsMemory }
 {}

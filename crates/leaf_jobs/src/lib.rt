@@ -7,6 +7,8 @@
 //! - What is reported of all leaves is all of them where failures do not stop the run ([`unstopped_is_whole`]). A theorem of a stopped
 //!   report is proved only where it is proved by all its leaves ([`fronts_are_proved`]). Where no leaf of a report wanted memory, it is
 //!   the report of a run that finds all memory ([`report_without_memory`]).
+//! - Where a report is not stopped, each job has a verdict ([`whole_is_given`]), and each found its memory where no leaf of the report
+//!   wanted some ([`whole_finds_memory`]).
 #![tactic(auto)]
 
 mod fill;
@@ -17,5 +19,5 @@ mod teller;
 mod values;
 
 pub use gather::forms;
-pub use laws::{fronts_are_proved, report_without_memory, unstopped_is_whole};
+pub use laws::{fronts_are_proved, report_without_memory, unstopped_is_whole, whole_finds_memory, whole_is_given};
 pub use teller::{Judged, judge};
