@@ -1,6 +1,6 @@
 -- The new cache has a line for each form that is proved.
 use Rattle.std.specs.Prelude.{◌≡◌, ℕ, zero, suc, Bool, true, false, not, is_some, ◌&&◌, if◌then◌else◌, List, [], ◌∷◌, ◌++◌, Option, Some, None, length, slice_get, option_map}
-use Rattle.std.proofs.Common.{refl, ap, sym, subst, ◌∙◌, arith, append-nil}
+use Rattle.std.proofs.Common.{refl, ap, sym, subst, ◌∙◌, arith}
 use Rattle.std.proofs.lemmas.List.{flat_map-append}
 use Rattle.tla_io.specs.Told.{Bytes}
 use Rattle.core_expr.specs.declared.canon.Canon.{Canon}
@@ -12,8 +12,8 @@ use Rattle.proof_cache.specs.declared.verdict.Verdict.{Verdict}
 use Rattle.proof_cache.specs.declared.verdict.Verdict.TheVariants as verdict
 use Rattle.proof_cache.specs.Verdicts.{Allowed}
 use Rattle.cache_hit.specs.Hits.{hit}
-use Rattle.cache_file.specs.Written.{file_of, line_of, job_record, job_records}
-use Rattle.text_writer.specs.Proofs.{proof_lists}
+use Rattle.cache_file.specs.Written.{file_of, written_line, proved_job, proved_jobs}
+use Rattle.proof_cache.specs.declared.record.Record.{Record}
 use Rattle.leaf_prover.specs.Forms.{is_form}
 use Rattle.leaf_prover.specs.Provers.{IsAnswered, IsAnsweredBy, IsAnsweredWhere, ProofsAreCorrect, RightIsAnswered}
 use Rattle.worker_map.specs.Answers.{Given, IsVerdict}
@@ -55,10 +55,10 @@ module _ (ps : Proofs) (n : ℕ) (f : Canon → Came) (law : ProofsAreCorrect) w
   adds-so true turns c bytes h = h
   adds-so false turns c bytes h = h
 
-  adds : (c : Canon) (v : Verdict) → Allowed Right c v → f c ≡ came_of v → Adds (f c) ps c (file_of (job_record c (Some v)))
+  adds : (c : Canon) (v : Verdict) → Allowed Right c v → f c ≡ came_of v → Adds (f c) ps c (file_of (proved_job c (Some v)))
   adds c (verdict.Proved p turns cached) h e =
-      let line = line_of (record { canon = c; proof = proof_lists p }) in
-      subst (λ x. Adds x ps c (line ++ [])) (sym e) (adds-so cached turns c (line ++ []) (p, proof-for c p turns cached h, append-nil line))
+      let line = file_of (record { canon = c; proof = p } ∷ []) in
+      subst (λ x. Adds x ps c line) (sym e) (adds-so cached turns c line (p, proof-for c p turns cached h, refl))
   adds c (verdict.Saturated values turns) h e = subst (λ x. Adds x ps c []) (sym e) refl
   adds c (verdict.Spent turns) h e = subst (λ x. Adds x ps c []) (sym e) refl
   adds c verdict.Memory h e = subst (λ x. Adds x ps c []) (sym e) refl
@@ -69,15 +69,15 @@ module _ (ps : Proofs) (n : ℕ) (f : Canon → Came) (law : ProofsAreCorrect) w
 
   -- jobs that all have a verdict
   out : (ks : List Canon) (vs : List (Option Verdict)) → length vs ≡ length ks → ((j : ℕ) → slice_get vs j ≡ Some None → ⊥) → AllGiven (IsVerdict Right ks) vs → ComeTo f ks vs
-      → CacheOut f ps ks (file_of (job_records ks vs))
+      → CacheOut f ps ks (file_of (proved_jobs ks vs))
   out [] vs l none given to = refl
   out (c ∷ ks) [] l none given to = absurd (omega (arith, l))
   out (c ∷ ks) (None ∷ vs) l none given to = absurd (none 0 refl)
   out (c ∷ ks) (Some v ∷ vs) l none given to =
       (
-        file_of (job_record c (Some v)),
-        file_of (job_records ks vs),
-        flat_map-append line_of (job_record c (Some v)) (job_records ks vs),
+        file_of (proved_job c (Some v)),
+        file_of (proved_jobs ks vs),
+        flat_map-append (λ (r : Record). written_line r ++ 10 ∷ []) (proved_job c (Some v)) (proved_jobs ks vs),
         adds c v (given 0 (Some v) refl c refl) (to 0 c v refl refl),
         out ks vs (omega (arith, l)) (λ j e. none (suc j) e) (λ j w e. given-behind c ks j w (given (suc j) w e)) (λ j d w k at. to (suc j) d w k at),
       )
@@ -105,19 +105,19 @@ module _ (ps : Proofs) (a : Asked) (r : Read) (jobs : List Canon) (vs : List (Op
   -- what the verdicts of the jobs give
   pub is-judged : RightIsAnswered → ProofsAreCorrect → WholeIsGiven → WholeFindsMemory → jobs ≡ jobs_of r → AreVerdicts a.stop least jobs vs → AllGiven (IsVerdict (λ c. IsAnswered (ps c) a.turns c) jobs) vs
       → (o : Outcome) → (ComeTo comes jobs vs → (o.judged.modules, o.judged.stopped) ≡ told ps lost_ones a r)
-      → option_map (λ v. v.items) o.next ≡ made_where (is_some a.cache && not o.judged.stopped) (file_of (job_records jobs vs)) → IsJudgedWith ps a r o lost_ones
+      → option_map (λ v. v.items) o.next ≡ made_where (is_some a.cache && not o.judged.stopped) (file_of (proved_jobs jobs vs)) → IsJudgedWith ps a r o lost_ones
   is-judged right correct whole memory planned are given o judge next =
       let cs = chapters_of r.modules r.table in
       let to = come_to ps a.turns right jobs (canons_of (forms_of cs)) vs planned given in
       let is = judge to in
       let stop = ap (λ (x : List ModuleIn × Bool). x.1) is in
-      let all : (told ps lost_ones a r).1 ≡ false → IsOut ps lost_ones a r (file_of (job_records jobs vs)) = λ s.
-      subst (λ ks. CacheOut comes ps ks (file_of (job_records jobs vs))) planned
+      let all : (told ps lost_ones a r).1 ≡ false → IsOut ps lost_ones a r (file_of (proved_jobs jobs vs)) = λ s.
+      subst (λ ks. CacheOut comes ps ks (file_of (proved_jobs jobs vs))) planned
       (out ps a.turns comes correct jobs vs are.count (whole a.stop least jobs vs comes r.table.entries cs planned are to s) given to) in
       record {
         told = is;
-        made = made-so (told ps lost_ones a r).1 a.cache (IsOut ps lost_ones a r) (file_of (job_records jobs vs)) (option_map (λ v. v.items) o.next)
-        (next ∙ ap (λ b. made_where (is_some a.cache && not b) (file_of (job_records jobs vs))) stop) all;
+        made = made-so (told ps lost_ones a r).1 a.cache (IsOut ps lost_ones a r) (file_of (proved_jobs jobs vs)) (option_map (λ v. v.items) o.next)
+        (next ∙ ap (λ b. made_where (is_some a.cache && not b) (file_of (proved_jobs jobs vs))) stop) all;
         found = λ s m bytes out.
         same-out ps comes (with_lost no_form (came ps a.turns)) (jobs_of r) bytes
         (λ i c at. ap (λ b. if b then lost else came ps a.turns c) (memory a.stop lost_ones (came ps a.turns) r.table.entries cs s m i c at)) out;

@@ -5,12 +5,11 @@ use Rattle.core_expr.specs.declared.canon.Canon.{Canon}
 use Rattle.seq_calculus.specs.Calculus.{Correct}
 use Rattle.seq_calculus.specs.Steps.{proof_of}
 use Rattle.seq_calculus.specs.Lists.{Lists}
-use Rattle.text_writer.specs.Proofs.{proof_lists}
 use Rattle.proof_cache.specs.declared.record.Record.{Record}
 use Rattle.proof_cache.specs.Records.{proofs_for}
 use Rattle.cache_file.specs.Lines.{lines_of}
 use Rattle.cache_file.specs.Records.{AreRecords}
-use Rattle.cache_file.specs.Written.{line_of}
+use Rattle.cache_file.specs.Written.{file_of}
 use Rattle.cache_hit.specs.Hits.{hit}
 use Rattle.leaf_jobs.specs.Came.{Came}
 use Rattle.leaf_jobs.specs.Came.Came.{proved, kept, saturated, spent, lost}
@@ -48,9 +47,9 @@ pub record IsProofFor (ps : Proofs) (c : Canon) (p : Lists) : Type 0 where
   pub correct : Correct (proof_of p) c.facts (c.goal ∷ [])
   pub kept : (q : Lists) → hit c (ps c) ≡ Some q → p ≡ q
 
--- the bytes are a line with the form and such a proof, of which the tree is written
+-- the bytes are the line of the form and such a proof, of which the tree is written
 abbrev pub IsLineFor : Proofs → Canon → Bytes → Type 0
-IsLineFor ps c bytes = (p : Lists) × IsProofFor ps c p × (bytes ≡ line_of (record { canon = c; proof = proof_lists p }))
+IsLineFor ps c bytes = (p : Lists) × IsProofFor ps c p × (bytes ≡ file_of (record { canon = c; proof = p } ∷ []))
 
 -- what a form that came to this adds: a line where it is proved
 abbrev pub Adds : Came → Proofs → Canon → Bytes → Type 0

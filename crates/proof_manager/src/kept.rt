@@ -3,7 +3,7 @@
 ghost use Rattle.std.specs.Prelude.{◌≡◌, None, option_map, IfOk, IfErr, OnOk};
 ghost use Rattle.tla_io.specs.Causes.{HasCause, HasCacheCause};
 ghost use Rattle.proof_cache.specs.Records.{kept_for};
-ghost use Rattle.cache_file.specs.Written.{file_of, job_records};
+ghost use Rattle.cache_file.specs.Written.{file_of, proved_jobs};
 ghost use Rattle.proof_manager.specs.Caching.{AreKept, made_where, IsReplaced, IsElsewhere};
 
 use cache_file::{read_cache, write_cache};
@@ -47,7 +47,7 @@ pub fn next_cache(
     verdicts: &[Option<Verdict>],
 ) -> Result<Option<Vec<u8>>, Memory>
     ensures { IfOk result (λ o. option_map (λ v. v.items) o
-        ≡ made_where wanted (file_of (job_records jobs.now verdicts.now))) }
+        ≡ made_where wanted (file_of (proved_jobs jobs.now verdicts.now))) }
 {
     if !wanted {
         return Ok(None);
