@@ -3,7 +3,7 @@ use Rattle.std.specs.Prelude.{◌≡◌, ℕ, ◌<◌, Bool, true, false, ◌&&�
 use Rattle.std.specs.List.{list_any, AllByRecursion}
 use Rattle.std.proofs.Common.{refl, ap, sym, ◌∙◌, subst, ⊎_elim, arith}
 use Rattle.std.proofs.lemmas.Bool.{or_parts, both_ways}
-use Rattle.std.proofs.lemmas.Option.{slice_get_within, same_Some}
+use Rattle.std.proofs.lemmas.Option.{slice_get_within}
 use Rattle.indexmap.specs.IndexSet.{insert_key, insert_all}
 use Rattle.tla_io.specs.Told.{Bytes}
 use Rattle.core_expr.specs.declared.canon.Canon.{Canon}
@@ -11,7 +11,6 @@ use Rattle.core_expr.specs.Equality.{same_canon}
 use Rattle.symbol_table.specs.declared.entry.Entry.{Entry}
 use Rattle.proof_contexts.specs.declared.leaf.LeafKind.{LeafKind}
 use Rattle.proof_contexts.specs.declared.leaf.LeafKind.TheVariants as kind
-use Rattle.proof_contexts.specs.declared.leaf.Leaf.{Leaf}
 use Rattle.canonical_form.specs.declared.form.Named.{Named}
 use Rattle.job_plan.specs.Plan.{canons_of}
 use Rattle.proof_cache.specs.declared.verdict.Verdict.{Verdict}
@@ -25,7 +24,6 @@ use Rattle.status_report.specs.declared.table.LeafIn.{LeafIn}
 use Rattle.status_report.specs.declared.table.TheoremIn.{TheoremIn}
 use Rattle.status_report.specs.declared.table.ModuleIn.{ModuleIn}
 use Rattle.status_report.specs.Report.{is_memory, has_memory_leaf}
-use Rattle.leaf_jobs.specs.Values.{symbol_text}
 use Rattle.leaf_jobs.specs.Came.{Came, came_of, shown_of, with_lost}
 use Rattle.leaf_jobs.specs.Came.Came.{lost}
 use Rattle.leaf_jobs.specs.Forms.{form_of_kind, form_of_leaf, forms_of_theorem, forms_of_chapter, forms_of}

@@ -19,5 +19,8 @@ mod teller;
 mod values;
 
 pub use gather::forms;
-pub use laws::{fronts_are_proved, report_without_memory, unstopped_is_whole, whole_finds_memory, whole_is_given};
+pub use laws::{
+    fronts_are_proved, report_without_memory, unstopped_is_whole, whole_finds_memory,
+    whole_is_given,
+};
 pub use teller::{Judged, judge};
