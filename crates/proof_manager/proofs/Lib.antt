@@ -3,6 +3,7 @@ pub mod Loaded
 pub mod Readings
 pub mod Lost
 pub mod NewCache
+pub mod Keeping
 pub mod Meant
 pub mod Lines
 pub mod Reporting

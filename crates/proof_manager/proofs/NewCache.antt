@@ -1,7 +1,7 @@
 -- The new cache has a line for each form that is proved.
 use Rattle.std.specs.Prelude.{◌≡◌, ℕ, zero, suc, Bool, true, false, not, is_some, ◌&&◌, if◌then◌else◌, List, [], ◌∷◌, ◌++◌, Option, Some, None, length, slice_get, option_map}
 use Rattle.std.proofs.Common.{refl, ap, sym, subst, ◌∙◌, arith}
-use Rattle.std.proofs.lemmas.List.{flat_map-append}
+use Rattle.std.proofs.lemmas.List.Concat.{flat_map-append}
 use Rattle.tla_io.specs.Told.{Bytes}
 use Rattle.core_expr.specs.declared.canon.Canon.{Canon}
 use Rattle.core_expr.specs.Equality.{same_canon}
@@ -91,9 +91,9 @@ same-out ps f g (c ∷ ks) bytes same h =
 -- what is made where it is wanted
 made-so : (stopped : Bool) (file : Option Bytes) (Out : Bytes → Type 0) (bytes : Bytes) (next : Option Bytes) → next ≡ made_where (is_some file && not stopped) bytes → (stopped ≡ false → Out bytes)
     → IsMade stopped file Out next
-made-so stopped None Out bytes next e out = e
-made-so true (Some file) Out bytes next e out = e
-made-so false (Some file) Out bytes next e out = (bytes, out refl, e)
+made-so stopped None Out bytes next e h = e
+made-so true (Some file) Out bytes next e h = e
+made-so false (Some file) Out bytes next e h = (bytes, h refl, e)
 
 module _ (ps : Proofs) (a : Asked) (r : Read) (jobs : List Canon) (vs : List (Option Verdict)) (least : Option ℕ) where
   abbrev lost_ones : Canon → Bool
@@ -115,7 +115,7 @@ module _ (ps : Proofs) (a : Asked) (r : Read) (jobs : List Canon) (vs : List (Op
       subst (λ ks. CacheOut comes ps ks (file_of (proved_jobs jobs vs))) planned
       (out ps a.turns comes correct jobs vs are.count (whole a.stop least jobs vs comes r.table.entries cs planned are to s) given to) in
       record {
-        told = is;
+        is = is;
         made = made-so (told ps lost_ones a r).1 a.cache (IsOut ps lost_ones a r) (file_of (proved_jobs jobs vs)) (option_map (λ v. v.items) o.next)
         (next ∙ ap (λ b. made_where (is_some a.cache && not b) (file_of (proved_jobs jobs vs))) stop) all;
         found = λ s m bytes out.

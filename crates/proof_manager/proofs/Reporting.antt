@@ -36,11 +36,11 @@ module _ (a : Asked) (r : Read) (ps : Proofs) (o : Outcome) (lost : Canon → Bo
   made = option_map (λ v. v.items) o.next
 
   no-memory : has_memory_leaf ms.0 ≡ false → has_memory_leaf (told ps lost a r).0 ≡ false
-  no-memory m = ap (λ (x : List ModuleIn × Bool). has_memory_leaf x.0) (sym is.told) ∙ m
+  no-memory m = ap (λ (x : List ModuleIn × Bool). has_memory_leaf x.0) (sym is.is) ∙ m
 
   -- where no leaf wanted memory, the report is the defined one, and so is the new cache
   same : has_memory_leaf ms.0 ≡ false → ms ≡ defined ps a r
-  same m = is.told ∙ as-defined ps a r lost law (no-memory m)
+  same m = is.is ∙ as-defined ps a r lost law (no-memory m)
 
   found-left : has_memory_leaf ms.0 ≡ false → IsReplaced a.cache made files → IsLeft (told ps no_form a r).1 a.cache (IsOut ps no_form a r) files
   found-left m w =
@@ -50,21 +50,21 @@ module _ (a : Asked) (r : Read) (ps : Proofs) (o : Outcome) (lost : Canon → Bo
   pub tells : (s : Status) → Writes (style_of a) ms a.cache made files taken s → Tells a r files taken s
   tells status.AllProved w =
       let e = same w.0 in
-      (ps, kept, sym (ap all_hold e) ∙ w.1, subst (λ m. TakesReport (style_of a) m taken.before taken.after) e w.2, found-left w.0 w.3)
+      (ps, kept, sym (ap all_hold e) ∙ w.1, subst (λ m. TakesReport (style_of a) m taken.before taken.after) e w.2.0, found-left w.0 w.2.1)
   tells status.NotAll w =
       let e = same w.0 in
-      (ps, kept, sym (ap all_hold e) ∙ w.1, subst (λ m. TakesReport (style_of a) m taken.before taken.after) e w.2, found-left w.0 w.3)
+      (ps, kept, sym (ap all_hold e) ∙ w.1, subst (λ m. TakesReport (style_of a) m taken.before taken.after) e w.2.0, found-left w.0 w.2.1)
   tells status.MemoryLeaf w =
       (
         ps,
         kept,
         lost,
-        ap (λ (x : List ModuleIn × Bool). has_memory_leaf x.0) (sym is.told) ∙ w.0,
-        subst (λ m. TakesReport (style_of a) m taken.before taken.after) is.told w.1,
-        left (told ps lost a r).1 a.cache (IsOut ps lost a r) (IsOut ps lost a r) made files is.made w.2 (λ s bytes out. out),
+        ap (λ (x : List ModuleIn × Bool). has_memory_leaf x.0) (sym is.is) ∙ w.0,
+        subst (λ m. TakesReport (style_of a) m taken.before taken.after) is.is w.1.0,
+        left (told ps lost a r).1 a.cache (IsOut ps lost a r) (IsOut ps lost a r) made files is.made w.1.1 (λ s bytes out. out),
       )
-  tells status.WriteFault w = (ps, kept, lost, subst (λ m. TakesPart (style_of a) m taken.before taken.after) is.told w)
-  tells status.CacheWrite w = (ps, kept, lost, subst (λ m. TakesReport (style_of a) m taken.before taken.after) is.told w.0, w.1)
+  tells status.WriteFault w = (ps, kept, lost, subst (λ m. TakesPart (style_of a) m taken.before taken.after) is.is w)
+  tells status.CacheWrite w = (ps, kept, lost, subst (λ m. TakesReport (style_of a) m taken.before taken.after) is.is w.0, w.1)
   tells status.Memory w = tt
   tells status.CacheRead w = tt
   tells status.Words w = absurd w

@@ -22,7 +22,7 @@ IsOut ps lost a r bytes = CacheOut (with_lost lost (came ps a.turns)) ps (jobs_o
 -- With these kept proofs the leaves come to what is told, where some forms found no memory; of these forms none is to be proved where
 -- the report is not stopped and has no Memory leaf. The new cache is made where one is to be left.
 pub record IsJudgedWith (ps : Proofs) (a : Asked) (r : Read) (o : Outcome) (lost : Canon → Bool) : Type 0 where
-  pub told : (o.judged.modules, o.judged.stopped) ≡ told ps lost a r
+  pub is : (o.judged.modules, o.judged.stopped) ≡ told ps lost a r
   pub made : IsMade (told ps lost a r).1 a.cache (IsOut ps lost a r) (option_map (λ v. v.items) o.next)
   pub found : (told ps lost a r).1 ≡ false → has_memory_leaf (told ps lost a r).0 ≡ false → (bytes : Bytes) → IsOut ps lost a r bytes → IsOut ps no_form a r bytes
 

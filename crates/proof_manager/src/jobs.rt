@@ -12,7 +12,7 @@ ghost use Rattle.proof_manager.specs.Runs.{InRange, Proofs};
 ghost use Rattle.proof_manager.specs.Causes.{IsFine, read_in};
 ghost use Rattle.proof_manager.specs.Judging.{IsJudged};
 
-use crate::kept::next_cache;
+use crate::kept::{is_wanted, next_cache};
 use crate::load::Checked;
 use claim_board::Board;
 use command_words::Request;
@@ -109,7 +109,7 @@ pub fn judge_all<R: Threads + Sync, G: Gate>(
         done.least,
         request.stop,
     )?;
-    let wanted = request.cache.is_some() && !judged.stopped;
+    let wanted = is_wanted(request.cache, judged.stopped);
     let next = next_cache(
         alloc,
         wanted,

@@ -1,6 +1,6 @@
 //! What is kept from run to run.
 
-ghost use Rattle.std.specs.Prelude.{◌≡◌, None, option_map, IfOk, IfErr, OnOk};
+ghost use Rattle.std.specs.Prelude.{◌≡◌, ◌&&◌, not, is_some, None, option_map, IfOk, IfErr, OnOk};
 ghost use Rattle.tla_io.specs.Causes.{HasCause, HasCacheCause};
 ghost use Rattle.proof_cache.specs.Records.{kept_for};
 ghost use Rattle.cache_file.specs.Written.{file_of, proved_jobs};
@@ -36,6 +36,16 @@ pub fn kept<R: Threads + Sync, C: CacheFile>(
     match read_cache(rt, alloc, bytes.as_slice()) {
         Ok(records) => Ok(records),
         Err(_) => Err(CacheFault::Memory),
+    }
+}
+
+/// Whether a new cache is wanted: with a file, where the report is not stopped.
+pub fn is_wanted(file: Option<&str>, stopped: bool) -> bool
+    ensures { result ≡ (is_some (option_map (λ s. s.now) file.entry) && not stopped) }
+{
+    match file {
+        None => false,
+        Some(_) => !stopped,
     }
 }
 

@@ -29,7 +29,7 @@ fn write<C: CacheFile, K: Sink>(
     cache: &mut C,
     out: &mut K,
 ) -> Status
-    ensures report { Writes style (outcome.judged.modules.items, outcome.judged.stopped)
+    ensures report { Writes style (outcome.judged.modules, outcome.judged.stopped)
         (option_map (λ s. s.now) file.entry) (option_map (λ v. v.items) outcome.next)
         (record { before = C.content cache.old; after = C.content cache.new })
         (record { before = K.taken out.old; after = K.taken out.new }) result }
