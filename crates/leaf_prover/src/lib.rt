@@ -27,6 +27,7 @@ pub use answer::Answer;
 pub use engine::{Engine, prove};
 pub use form::is_form;
 pub use laws::{
-    answered_derives, cache_keeps_proved, enough_turns_decide, proved_derives, right_is_answered, values_are_right,
+    answered_derives, cache_keeps_proved, enough_turns_decide, proved_derives, right_is_answered,
+    values_are_right,
 };
 pub use search::answer_to;

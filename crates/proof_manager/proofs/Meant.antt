@@ -220,8 +220,8 @@ reads_are_just places justified agree report fronts derives searched keeps valid
           no_less = λ ps. no-less keeps ps n (obligation_canon o) p;
           valid = valid n (obligation_canon o);
           falsified = λ ps values turns e.
-          falsifies n (obligation_canon o) (forms_are_numbered (map (unfolded o.defs) o.facts) (unfolded o.defs o.goal)) values turns
-          (searched ps n (obligation_canon o) (Some values) turns e);
+              falsifies n (obligation_canon o) (forms_are_numbered (map (unfolded o.defs) o.facts) (unfolded o.defs o.goal)) values turns
+              (searched ps n (obligation_canon o) (Some values) turns e);
         }) cs all;
       },
       of-chapters (IsDecidedForm n) (λ o p. let c = obligation_canon o in record {

@@ -73,14 +73,13 @@ module _ (ps : Proofs) (n : ℕ) (f : Canon → Came) (law : ProofsAreCorrect) w
   out [] vs l none given to = refl
   out (c ∷ ks) [] l none given to = absurd (omega (arith, l))
   out (c ∷ ks) (None ∷ vs) l none given to = absurd (none 0 refl)
-  out (c ∷ ks) (Some v ∷ vs) l none given to =
-      (
-        file_of (proved_job c (Some v)),
-        file_of (proved_jobs ks vs),
-        flat_map-append (λ (r : Record). written_line r ++ 10 ∷ []) (proved_job c (Some v)) (proved_jobs ks vs),
-        adds c v (given 0 (Some v) refl c refl) (to 0 c v refl refl),
-        out ks vs (omega (arith, l)) (λ j e. none (suc j) e) (λ j w e. given-behind c ks j w (given (suc j) w e)) (λ j d w k at. to (suc j) d w k at),
-      )
+  out (c ∷ ks) (Some v ∷ vs) l none given to = (
+    file_of (proved_job c (Some v)),
+    file_of (proved_jobs ks vs),
+    flat_map-append (λ (r : Record). written_line r ++ 10 ∷ []) (proved_job c (Some v)) (proved_jobs ks vs),
+    adds c v (given 0 (Some v) refl c refl) (to 0 c v refl refl),
+    out ks vs (omega (arith, l)) (λ j e. none (suc j) e) (λ j w e. given-behind c ks j w (given (suc j) w e)) (λ j d w k at. to (suc j) d w k at),
+  )
 
 -- forms that come to the same add the same
 same-out : (ps : Proofs) (f g : Canon → Came) (ks : List Canon) (bytes : Bytes) → ((i : ℕ) (c : Canon) → slice_get ks i ≡ Some c → f c ≡ g c) → CacheOut f ps ks bytes → CacheOut g ps ks bytes
@@ -117,8 +116,8 @@ module _ (ps : Proofs) (a : Asked) (r : Read) (jobs : List Canon) (vs : List (Op
       record {
         is = is;
         made = made-so (told ps lost_ones a r).1 a.cache (IsOut ps lost_ones a r) (file_of (proved_jobs jobs vs)) (option_map (λ v. v.items) o.next)
-        (next ∙ ap (λ b. made_where (is_some a.cache && not b) (file_of (proved_jobs jobs vs))) stop) all;
+            (next ∙ ap (λ b. made_where (is_some a.cache && not b) (file_of (proved_jobs jobs vs))) stop) all;
         found = λ s m bytes out.
-        same-out ps comes (with_lost no_form (came ps a.turns)) (jobs_of r) bytes
-        (λ i c at. ap (λ b. if b then lost else came ps a.turns c) (memory a.stop lost_ones (came ps a.turns) r.table.entries cs s m i c at)) out;
+            same-out ps comes (with_lost no_form (came ps a.turns)) (jobs_of r) bytes
+            (λ i c at. ap (λ b. if b then lost else came ps a.turns c) (memory a.stop lost_ones (came ps a.turns) r.table.entries cs s m i c at)) out;
       }

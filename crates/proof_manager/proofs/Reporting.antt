@@ -54,15 +54,14 @@ module _ (a : Asked) (r : Read) (ps : Proofs) (o : Outcome) (lost : Canon → Bo
   tells status.NotAll w =
       let e = same w.0 in
       (ps, kept, sym (ap all_hold e) ∙ w.1, subst (λ m. TakesReport (style_of a) m taken.before taken.after) e w.2.0, found-left w.0 w.2.1)
-  tells status.MemoryLeaf w =
-      (
-        ps,
-        kept,
-        lost,
-        ap (λ (x : List ModuleIn × Bool). has_memory_leaf x.0) (sym is.is) ∙ w.0,
-        subst (λ m. TakesReport (style_of a) m taken.before taken.after) is.is w.1.0,
-        left (told ps lost a r).1 a.cache (IsOut ps lost a r) (IsOut ps lost a r) made files is.made w.1.1 (λ s bytes out. out),
-      )
+  tells status.MemoryLeaf w = (
+    ps,
+    kept,
+    lost,
+    ap (λ (x : List ModuleIn × Bool). has_memory_leaf x.0) (sym is.is) ∙ w.0,
+    subst (λ m. TakesReport (style_of a) m taken.before taken.after) is.is w.1.0,
+    left (told ps lost a r).1 a.cache (IsOut ps lost a r) (IsOut ps lost a r) made files is.made w.1.1 (λ s bytes out. out),
+  )
   tells status.WriteFault w = (ps, kept, lost, subst (λ m. TakesPart (style_of a) m taken.before taken.after) is.is w)
   tells status.CacheWrite w = (ps, kept, lost, subst (λ m. TakesReport (style_of a) m taken.before taken.after) is.is w.0, w.1)
   tells status.Memory w = tt

@@ -4,9 +4,7 @@ ghost use Rattle.proof_manager.specs.Causes.{ReadsAreJust};
 
 use leaf_forms::leaves_are_forms;
 use leaf_jobs::fronts_are_proved;
-use leaf_prover::{
-    answered_derives, cache_keeps_proved, enough_turns_decide, values_are_right,
-};
+use leaf_prover::{answered_derives, cache_keeps_proved, enough_turns_decide, values_are_right};
 use proof_assembly::statuses_are_justified;
 use propositional_laws::few_connectives;
 use reading_places::read_places_differ;

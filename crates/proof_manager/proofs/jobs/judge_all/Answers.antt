@@ -26,11 +26,10 @@ returns g c =
     let vs = c.in_ok-done.done.verdicts.items in
     let comes = with_lost (is_lost jobs vs) (came ps a.turns) in
     let chapters = c.as_slice-chapters.ensures ∙ c.requires.fine.chapters in
-    let planned = c.in_ok-plan.ensures.jobs ∙ ap (λ fs. insert_all same_canon [] (canons_of fs)) (c.in_ok-forms.ensures ∙ ap forms_of chapters) in
-    (
+    let planned = c.in_ok-plan.ensures.jobs ∙ ap (λ fs. insert_all same_canon [] (canons_of fs)) (c.in_ok-forms.ensures ∙ ap forms_of chapters) in (
       is_lost jobs vs,
       is-judged ps a r jobs vs c.in_ok-done.done.least c.right_is_answered.ensures.says c.right_is_answered.ensures.correct c.whole_is_given.ensures c.whole_finds_memory.ensures planned c.in_ok-done.ensures.verdicts
-      c.in_ok-done.ensures.given (record { judged = c.in_ok-judged.judged; next = c.in_ok-next.next })
-      (λ to. c.in_ok-judged.ensures comes (subst (ComeTo comes jobs) (sym c.as_slice.ensures.value) to) ∙ ap (λ cs. reported a.stop (judged comes r.table.entries cs)) chapters)
-      (c.in_ok-next.ensures ∙ (λ i. made_where (c.is_wanted-wanted.ensures i) (file_of (proved_jobs (c.as_slice-2.ensures.value i) (c.as_slice-3.ensures.value i))))),
+          c.in_ok-done.ensures.given (record { judged = c.in_ok-judged.judged; next = c.in_ok-next.next })
+          (λ to. c.in_ok-judged.ensures comes (subst (ComeTo comes jobs) (sym c.as_slice.ensures.value) to) ∙ ap (λ cs. reported a.stop (judged comes r.table.entries cs)) chapters)
+          (c.in_ok-next.ensures ∙ (λ i. made_where (c.is_wanted-wanted.ensures i) (file_of (proved_jobs (c.as_slice-2.ensures.value i) (c.as_slice-3.ensures.value i))))),
     )
