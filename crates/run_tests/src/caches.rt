@@ -279,12 +279,12 @@ fn a_cache_is_read_and_replaced_with_its_faults(rt: HostRuntime) -> Result<(), F
     let read = with_cache(&rt, alloc, &words, LINE.as_bytes(), &[0])?;
     assert_eq!(rt; read.code, 6);
     assert_eq!(rt; read.taken.len(), 0);
-    assert_eq!(rt; read.said.bytes(), b"cache read fault");
+    assert_eq!(rt; read.said.bytes(), "cache read fault".as_bytes());
     assert_eq!(rt; read.cache.as_slice(), LINE.as_bytes());
     let replace = with_cache(&rt, alloc, &words, LINE.as_bytes(), &[1])?;
     assert_eq!(rt; replace.code, 8);
     assert_eq!(rt; replace.taken.as_slice(), CACHED.as_bytes());
-    assert_eq!(rt; replace.said.bytes(), b"cache write fault");
+    assert_eq!(rt; replace.said.bytes(), "cache write fault".as_bytes());
     Ok(())
 }
 
@@ -319,6 +319,6 @@ fn a_found_proof_is_kept_for_the_next_run(rt: HostRuntime) -> Result<(), Fail> {
         &[],
     )?;
     assert_eq!(rt; stopped.code, 1);
-    assert_eq!(rt; stopped.cache.as_slice(), b"kept");
+    assert_eq!(rt; stopped.cache.as_slice(), "kept".as_bytes());
     Ok(())
 }
