@@ -5,23 +5,15 @@ use Rattle.std.proofs.Common.{refl, ap, sym, subst, ◌∙◌, arith, zero-add}
 use Rattle.std.proofs.lemmas.Bool.Decides.{nat_tests}
 use Rattle.std.proofs.lemmas.List.Sums.{sum_by-append, count_by-le-length}
 use Rattle.clap.specs.Words.{first_of}
-use Rattle.tla_io.specs.Told.{Bytes, Folder}
-use Rattle.core_expr.specs.declared.canon.Canon.{Canon}
-use Rattle.theorem_leaves.specs.Chapters.{chapters_of}
+use Rattle.tla_io.specs.Told.{Bytes}
 use Rattle.proof_contexts.specs.Statuses.{is_proved}
 use Rattle.status_report.specs.declared.table.TheoremIn.{TheoremIn}
 use Rattle.status_report.specs.declared.table.ModuleIn.{ModuleIn}
-use Rattle.status_report.specs.declared.table.Style.{Style}
 use Rattle.status_report.specs.Statuses.{Seen, see, nothing, statuses_from}
-use Rattle.status_report.specs.Report.{all_theorems, statuses_of, has_memory_leaf}
-use Rattle.leaf_jobs.specs.Laws.{ReportWithoutMemory}
+use Rattle.status_report.specs.Report.{all_theorems, statuses_of}
 use Rattle.command_words.specs.Words.{IsNumber, rows}
 use Rattle.command_words.specs.Requests.{Asked, IsAsked, IsDemo}
-use Rattle.proof_manager.specs.declared.status.Status.{Status}
-use Rattle.proof_manager.specs.declared.status.Status.TheVariants as status
-use Rattle.proof_manager.specs.Reading.{Read}
-use Rattle.proof_manager.specs.Runs.{IsRead, came, defined, told, style_of, all_hold, IsDemoSize, InRange}
-use Rattle.proof_manager.specs.Causes.{WhereTold, TakesReport, TakesPart, EndsTold, WhereReported, Writes}
+use Rattle.proof_manager.specs.Runs.{IsDemoSize, InRange}
 
 -- ---- counts
 

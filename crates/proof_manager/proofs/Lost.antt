@@ -1,5 +1,5 @@
 -- The jobs whose searches found no memory, and what all jobs came to.
-use Rattle.std.specs.Prelude.{◌≡◌, if◌then◌else◌, cond, ℕ, zero, suc, Bool, true, false, ◌||◌, List, [], ◌∷◌, ◌++◌, Option, Some, Result, Ok, Err, IfOk, slice_get}
+use Rattle.std.specs.Prelude.{◌≡◌, if◌then◌else◌, cond, ℕ, zero, suc, Bool, true, false, ◌||◌, List, [], ◌∷◌, ◌++◌, Option, Some, slice_get}
 use Rattle.std.specs.List.{list_any}
 use Rattle.std.proofs.Common.{refl, ap, sym, subst, ◌∙◌}
 use Rattle.std.proofs.lemmas.Bool.{or_parts}
@@ -14,17 +14,9 @@ use Rattle.leaf_prover.specs.Provers.{answered, IsAnswered, Says, RightIsAnswere
 use Rattle.leaf_prover.specs.Provers.{proved_by as answered_so}
 use Rattle.worker_map.specs.Answers.{IsVerdict}
 use Rattle.worker_map.specs.Stops.{AllGiven}
-use Rattle.leaf_jobs.specs.Came.{Came, with_lost, came_of, proved_by}
+use Rattle.leaf_jobs.specs.Came.{with_lost, came_of, proved_by}
 use Rattle.leaf_jobs.specs.Came.Came.{lost}
 use Rattle.leaf_jobs.specs.Plans.{ComeTo}
-use Rattle.core_expr.specs.declared.memory.Memory.{Memory}
-use Rattle.theorem_leaves.specs.declared.chapter.Chapter.{Chapter}
-use Rattle.theorem_leaves.specs.Chapters.{chapters_of}
-use Rattle.leaf_jobs.specs.declared.teller.Judged.{Judged}
-use Rattle.leaf_jobs.specs.Judging.{judged}
-use Rattle.leaf_jobs.specs.Stopping.{reported}
-use Rattle.command_words.specs.Requests.{Asked}
-use Rattle.proof_manager.specs.Reading.{Read}
 use Rattle.proof_manager.specs.Runs.{Proofs, as_came, came}
 
 -- ---- the jobs are different

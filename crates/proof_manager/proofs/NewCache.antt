@@ -1,12 +1,10 @@
 -- The new cache has a line for each form that is proved.
-use Rattle.std.specs.Prelude.{◌≡◌, ℕ, zero, suc, Bool, true, false, not, is_some, ◌&&◌, if◌then◌else◌, List, [], ◌∷◌, ◌++◌, Option, Some, None, length, slice_get, option_map}
+use Rattle.std.specs.Prelude.{◌≡◌, ℕ, suc, Bool, true, false, not, is_some, ◌&&◌, if◌then◌else◌, List, [], ◌∷◌, ◌++◌, Option, Some, None, length, slice_get, option_map}
 use Rattle.std.proofs.Common.{refl, ap, sym, subst, ◌∙◌, arith}
 use Rattle.std.proofs.lemmas.List.Concat.{flat_map-append}
 use Rattle.tla_io.specs.Told.{Bytes}
 use Rattle.core_expr.specs.declared.canon.Canon.{Canon}
-use Rattle.core_expr.specs.Equality.{same_canon}
 use Rattle.seq_calculus.specs.Lists.{Lists}
-use Rattle.indexmap.specs.IndexSet.{insert_all}
 use Rattle.job_plan.specs.Plan.{canons_of}
 use Rattle.proof_cache.specs.declared.verdict.Verdict.{Verdict}
 use Rattle.proof_cache.specs.declared.verdict.Verdict.TheVariants as verdict
@@ -20,14 +18,11 @@ use Rattle.worker_map.specs.Answers.{Given, IsVerdict}
 use Rattle.worker_map.specs.Stops.{AllGiven}
 use Rattle.theorem_leaves.specs.Chapters.{chapters_of}
 use Rattle.status_report.specs.declared.table.ModuleIn.{ModuleIn}
-use Rattle.status_report.specs.Report.{has_memory_leaf}
 use Rattle.leaf_jobs.specs.Came.{Came, came_of, proved_by, with_lost}
 use Rattle.leaf_jobs.specs.Came.Came.{lost}
 use Rattle.leaf_jobs.specs.Forms.{forms_of}
-use Rattle.leaf_jobs.specs.Judging.{judged}
 use Rattle.leaf_jobs.specs.Laws.{WholeIsGiven, WholeFindsMemory}
 use Rattle.leaf_jobs.specs.Plans.{AreVerdicts, ComeTo}
-use Rattle.leaf_jobs.specs.Stopping.{reported}
 use Rattle.command_words.specs.Requests.{Asked}
 use Rattle.proof_manager.specs.Reading.{Read}
 use Rattle.proof_manager.specs.Runs.{Proofs, came, told, jobs_of}

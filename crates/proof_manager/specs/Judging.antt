@@ -1,8 +1,7 @@
 -- What the jobs of a run give.
-use Rattle.std.specs.Prelude.{◌≡◌, Bool, false, List, Option, None, Some, option_map}
+use Rattle.std.specs.Prelude.{◌≡◌, Bool, false, option_map}
 use Rattle.tla_io.specs.Told.{Bytes}
 use Rattle.core_expr.specs.declared.canon.Canon.{Canon}
-use Rattle.status_report.specs.declared.table.ModuleIn.{ModuleIn}
 use Rattle.status_report.specs.Report.{has_memory_leaf}
 use Rattle.leaf_jobs.specs.Came.{with_lost}
 use Rattle.command_words.specs.Requests.{Asked}

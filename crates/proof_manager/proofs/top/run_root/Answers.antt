@@ -1,5 +1,4 @@
 use Rattle.command_words.specs.Requests.{asked_by}
-use Rattle.proof_manager.specs.Caching.{Change}
 use Rattle.proof_manager.specs.Causes.{IsJust, IsDecided, read_in}
 use Rattle.proof_manager.proofs.Reporting.{ends, of-reported}
 use Rattle.proof_manager.proofs.top.run_root.Goals as goal
